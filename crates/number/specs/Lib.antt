@@ -1,0 +1,3 @@
+-- Number: seven-bit numbers. Value: signed values.
+pub mod Number
+pub mod Value

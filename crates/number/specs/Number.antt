@@ -1,0 +1,74 @@
+-- Numbers in groups of seven bits: how one is written, and what reading one gives. The paper: "The record and its bytes".
+use Prim.Native.Nat.{ℕ, zero, suc, _+_, _*_, _/_, _%_}
+use mathlib.Core.List.{List, [], _∷_, _++_}
+use mathlib.Core.Bool.{Bool, true, false, cond, _&&_}
+use lib.ListN.{length, drop}
+use lib.Seq.{sets}
+use lib.Dec.{ltb, leb, eqb}
+use Rattle.number.specs.declared.Number.{Number}
+use Rattle.number.specs.declared.Number.the-variants.{Is, Refused}
+use Rattle.number.specs.declared.Put.{Put}
+use Rattle.number.specs.declared.Put.the-variants.{Next, NoRoom}
+
+-- groups of seven bits, lowest group first, 128 added to every byte but the last; at most f groups after the first
+unfoldable pub groupsOf : ℕ → ℕ → List ℕ
+groupsOf zero n = n ∷ []
+groupsOf (suc f) n = cond (ltb n 128) (n ∷ []) ((128 + n % 128) ∷ groupsOf f (n / 128))
+
+-- the bytes of a number: five at most
+abbrev pub numberBytes : ℕ → List ℕ
+numberBytes n = groupsOf 4 n
+
+-- a number is read up to its first byte below 128, f + 1 bytes at most
+unfoldable pub taken : ℕ → List ℕ → List ℕ
+taken zero [] = []
+taken zero (b ∷ bs) = b ∷ []
+taken (suc f) [] = []
+taken (suc f) (b ∷ bs) = cond (ltb b 128) (b ∷ []) (b ∷ taken f bs)
+
+-- the last of the bytes taken; of none, 128: more had to follow
+unfoldable pub lastOf : List ℕ → ℕ
+lastOf [] = 128
+lastOf (b ∷ []) = b
+lastOf (b ∷ c ∷ bs) = lastOf (c ∷ bs)
+
+-- 21: the bytes end first
+abbrev pub endsFirst : List ℕ → Bool
+endsFirst bs = ltb (length bs) 5 && leb 128 (lastOf bs)
+
+-- 22: several bytes and the last is 0
+abbrev pub lastIsZero : List ℕ → Bool
+lastIsZero bs = ltb 1 (length bs) && eqb (lastOf bs) 0
+
+-- 23: the fifth is above 15
+abbrev pub fifthAbove : List ℕ → Bool
+fifthAbove bs = eqb (length bs) 5 && ltb 15 (lastOf bs)
+
+-- the seven bits of each byte, lowest group first
+unfoldable pub valueOf : List ℕ → ℕ
+valueOf [] = 0
+valueOf (b ∷ bs) = b % 128 + 128 * valueOf bs
+
+-- what the bytes taken from place at on give
+unfoldable pub numberOf : ℕ → List ℕ → Number
+numberOf at bs =
+    cond (endsFirst bs) (Refused 21)
+    (cond (lastIsZero bs) (Refused 22)
+    (cond (fifthAbove bs) (Refused 23)
+    (Is (valueOf bs) (at + length bs))))
+
+-- what reading a number at place at of s gives
+unfoldable pub numberAt : List ℕ → ℕ → Number
+numberAt s at = numberOf at (taken 4 (drop at s))
+
+-- whether a number fits at place at
+abbrev pub fitsAt : List ℕ → ℕ → ℕ → Bool
+fitsAt d at n = leb (at + length (numberBytes n)) (length d)
+
+-- what writing the number n at place at of d answers
+unfoldable pub putAnswer : List ℕ → ℕ → ℕ → Put
+putAnswer d at n = cond (fitsAt d at n) (Next (at + length (numberBytes n))) NoRoom
+
+-- and what then stands in d: its bytes from place at on, the others as they were; all as it was where it doesn't fit
+unfoldable pub putBytes : List ℕ → ℕ → ℕ → List ℕ
+putBytes d at n = cond (fitsAt d at n) (sets d at (numberBytes n)) d
