@@ -1,21 +1,19 @@
--- An entry: its kind and then its fields, each a number. How one is written, what reading one gives, and its row of four numbers in memory.
+-- An entry: its kind and then its fields, each a number. The paper: "The record and its bytes".
 use Prim.Native.Nat.{ℕ, _+_}
 use mathlib.Core.List.{List, [], _∷_, _++_}
-use mathlib.Core.Bool.{Bool, true, false, cond, _||_}
+use mathlib.Core.Bool.{cond, _||_, _&&_}
+use lib.ListN.{getD}
 use lib.Dec.{ltb, eqb}
 use Rattle.number.specs.Number.{numberBytes, numberAt}
 use Rattle.number.specs.Value.{alternatingOf, signedOf}
 use Rattle.number.specs.declared.Number.{Number}
-use Rattle.number.specs.declared.Number.the-variants.{Is} 
-use Rattle.number.specs.declared.Number.the-variants.{Refused as Unread}
+use Rattle.number.specs.declared.Number.the-variants.{Is, Refused}
 use Rattle.record.specs.declared.Client.{Client}
 use Rattle.record.specs.declared.Cell.{Cell}
 use Rattle.record.specs.declared.Entry.{Entry}
 use Rattle.record.specs.declared.Entry.the-variants.{ReadAsked, WriteAsked, Told, Done}
 use Rattle.record.specs.declared.Found.{Found}
-use Rattle.record.specs.declared.Found.the-variants.{At, Refused}
-use Rattle.record.specs.declared.Row.{Row}
-use Rattle.record.specs.declared.Row.the-variants.{Holds, Unfit}
+use Rattle.record.specs.declared.Found.the-variants.{At, Fault}
 
 -- 0 read asked (client, cell); 1 write asked (client, cell, value); 2 told (client, value); 3 done (client)
 unfoldable pub entryBytes : Entry → List ℕ
@@ -24,28 +22,54 @@ entryBytes (WriteAsked client cell v) = numberBytes 1 ++ (numberBytes (client .0
 entryBytes (Told client v) = numberBytes 2 ++ (numberBytes (client .0) ++ numberBytes (alternatingOf v))
 entryBytes (Done client) = numberBytes 3 ++ numberBytes (client .0)
 
--- as soon as a number is read: the refusal if it is above the limit
+-- as soon as a number is read: the refusal, if it is above the limit
 unfoldable pub upTo : ℕ → ℕ → Number → Number
-upTo limit refusal (Unread k) = Unread k
-upTo limit refusal (Is n next) = cond (ltb limit n) (Unread refusal) (Is n next)
+upTo limit refusal (Refused k) = Refused k
+upTo limit refusal (Is n next) = cond (ltb limit n) (Refused refusal) (Is n next)
 
--- go on with a number and the place after it
+-- a number that is refused refuses its entry; else go on with it and the place after it
 unfoldable pub andThen : Number → (ℕ → ℕ → Found) → Found
-andThen (Unread k) go = Refused k
+andThen (Refused k) go = Fault k
 andThen (Is n next) go = go n next
 
--- the fields after kind and client
-unfoldable pub fieldsAt : List ℕ → ℕ → ℕ → Client → Found
+-- the fields after kind and client; 25: cell above 15
+unfoldable pub fieldsAt : List ℕ → ℕ → ℕ → ℕ → Found
 fieldsAt s at kind client =
-    cond (eqb kind 3) (At (Done client) at)
-    (cond (eqb kind 2) (andThen (numberAt s at) (λ v next. At (Told client (signedOf v)) next))
+    cond (eqb kind 3) (At (Done (record { 0 = client })) at)
+    (cond (eqb kind 2) (andThen (numberAt s at) (λ v next. At (Told (record { 0 = client }) (signedOf v)) next))
     (andThen (upTo 15 25 (numberAt s at)) (λ cell next.
-    cond (eqb kind 0) (At (ReadAsked client (record { 0 = cell })) next)
-    (andThen (numberAt s next) (λ v last. At (WriteAsked client (record { 0 = cell }) (signedOf v)) last)))))
+    cond (eqb kind 0) (At (ReadAsked (record { 0 = client }) (record { 0 = cell })) next)
+    (andThen (numberAt s next) (λ v last. At (WriteAsked (record { 0 = client }) (record { 0 = cell }) (signedOf v)) last)))))
 
--- 24: kind above 3; 25: client above 7 or cell above 15
+-- what reading an entry at place at of s gives; 24: kind above 3; 25: client above 7
 unfoldable pub entryAt : List ℕ → ℕ → Found
 entryAt s at =
     andThen (upTo 3 24 (numberAt s at)) (λ kind next.
     andThen (upTo 7 25 (numberAt s next)) (λ client more.
-    fieldsAt s more kind (record { 0 = client })))
+    fieldsAt s more kind client))
+
+-- an entry in memory is a row of four numbers: kind, client, cell, value as it is written; a field its kind hasn't got stands as 0
+unfoldable pub rowOf : Entry → List ℕ
+rowOf (ReadAsked client cell) = 0 ∷ client .0 ∷ cell .0 ∷ 0 ∷ []
+rowOf (WriteAsked client cell v) = 1 ∷ client .0 ∷ cell .0 ∷ alternatingOf v ∷ []
+rowOf (Told client v) = 2 ∷ client .0 ∷ 0 ∷ alternatingOf v ∷ []
+rowOf (Done client) = 3 ∷ client .0 ∷ 0 ∷ 0 ∷ []
+
+-- the entry of a row's four numbers; a field its kind hasn't got is no part of it
+unfoldable pub entryOf : ℕ → ℕ → ℕ → ℕ → Entry
+entryOf kind client cell value =
+    cond (eqb kind 0) (ReadAsked (record { 0 = client }) (record { 0 = cell }))
+    (cond (eqb kind 1) (WriteAsked (record { 0 = client }) (record { 0 = cell }) (signedOf value))
+    (cond (eqb kind 2) (Told (record { 0 = client }) (signedOf value))
+    (Done (record { 0 = client }))))
+
+-- what a row's four numbers give, up to place next; 24: kind above 3; 25: client above 7 or cell above 15
+unfoldable pub rowFound : ℕ → ℕ → ℕ → ℕ → ℕ → Found
+rowFound kind client cell value next =
+    cond (ltb 3 kind) (Fault 24)
+    (cond (ltb 7 client || (ltb kind 2 && ltb 15 cell)) (Fault 25)
+    (At (entryOf kind client cell value) next))
+
+-- what the row at place at of ws gives
+unfoldable pub rowAt : List ℕ → ℕ → Found
+rowAt ws at = rowFound (getD ws at 0) (getD ws (at + 1) 0) (getD ws (at + 2) 0) (getD ws (at + 3) 0) (at + 4)

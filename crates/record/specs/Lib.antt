@@ -1,1 +1,4 @@
+-- Entry: one entry. Record: entries one after another, the reader and the writer. Legal: a record without a fault.
 pub mod Entry
+pub mod Record
+pub mod Legal

@@ -20,22 +20,16 @@ pub enum Entry {
 // What reading one entry gives: the entry and the place after it, or the refusal.
 pub enum Found {
     At(Entry, usize),
-    Refused(u8),
+    Fault(u8),
 }
 
 // What each client has open: nothing is 0, a read 1, a write 2.
 pub struct Standing {
-    pub open: [u8; 8],
-}
-
-// What a row of four numbers is: an entry, or the refusal.
-pub enum Row {
-    Holds(Entry),
-    Unfit(u8),
+    pub has: [u8; 8],
 }
 
 // What reading or writing a record gives: how many entries or bytes, or the refusal with its entry's number.
 pub enum Answer {
-    Count(usize),
-    No(u8, usize),
+    All(usize),
+    Refused(u8, usize),
 }

@@ -1,0 +1,29 @@
+-- A record that has no fault: its entries are in range, and each may follow those before it. Reading gives such records only, and the
+-- writer takes them all (specs/Trip.antt).
+use Prim.Native.Nat.{ℕ, _≤_}
+use mathlib.Core.Path.{_≡_}
+use mathlib.Core.List.{List, [], _∷_}
+use lib.ListN.{length}
+use mir.Syntax.{w32}
+use mir.Val.{SFits}
+use Rattle.record.specs.declared.Entry.{Entry}
+use Rattle.record.specs.declared.Entry.the-variants.{ReadAsked, WriteAsked, Told, Done}
+use Rattle.record.specs.declared.Standing.{Standing}
+use Rattle.record.specs.Record.{entryLimit, fresh, faultAfter, standingAfter}
+
+-- client at most 7, cell at most 15, a value of 32 bits
+abbrev pub InRange : Entry → Type 0
+InRange (ReadAsked client cell) = (client .0 ≤ 7) × (cell .0 ≤ 15)
+InRange (WriteAsked client cell v) = (client .0 ≤ 7) × (cell .0 ≤ 15) × SFits w32 v
+InRange (Told client v) = (client .0 ≤ 7) × SFits w32 v
+InRange (Done client) = client .0 ≤ 7
+
+-- each entry is in range and is no 26 or 27 after those before it
+abbrev pub Follows : Standing → List Entry → Type 0
+Follows st [] = Unit {0}
+Follows st (e ∷ es) = InRange e × (faultAfter st e ≡ 0) × Follows (standingAfter st e) es
+
+-- a whole record without a fault
+pub record Legal (es : List Entry) : Type 0 where
+  pub follows : Follows fresh es
+  pub few : length es ≤ entryLimit
