@@ -2,6 +2,7 @@
 use Prim.Native.Nat.{ℕ, zero, suc, _+_, _*_, _/_, _%_}
 use mathlib.Core.List.{List, [], _∷_, _++_}
 use mathlib.Core.Bool.{Bool, true, false, cond, _&&_}
+use mathlib.Core.Path.{_≡_}
 use lib.ListN.{length, drop}
 use lib.Seq.{sets}
 use lib.Dec.{ltb, leb, eqb}
@@ -72,3 +73,8 @@ putAnswer d at n = cond (fitsAt d at n) (Next (at + length (numberBytes n))) NoR
 -- and what then stands in d: its bytes from place at on, the others as they were; all as it was where it doesn't fit
 unfoldable pub putBytes : List ℕ → ℕ → ℕ → List ℕ
 putBytes d at n = cond (fitsAt d at n) (sets d at (numberBytes n)) d
+
+-- what writing the number n at place at of d has to do: answer r, and d′ stands there after
+pub record Placed (d : List ℕ) (at n : ℕ) (r : Put) (d′ : List ℕ) : Type 0 where
+  pub answer : r ≡ putAnswer d at n
+  pub bytes : d′ ≡ putBytes d at n

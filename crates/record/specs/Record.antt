@@ -1,6 +1,7 @@
 -- The record: its entries one after another, what reading and writing one give, and what they leave in memory.
 -- The paper: "The record and its bytes".
 use Prim.Native.Nat.{ℕ, zero, suc, _+_}
+use mathlib.Core.Path.{_≡_}
 use mathlib.Core.List.{List, [], _∷_, _++_}
 use mathlib.Core.Bool.{Bool, cond}
 use lib.ListN.{length, getD, set, drop}
@@ -88,10 +89,25 @@ bytesOf es = allOf entryBytes es
 abbrev pub rowsOf : List Entry → List ℕ
 rowsOf es = allOf rowOf es
 
+-- what is held, without memory for it: how many entries
+unfoldable pub surveyOf : Held → Answer
+surveyOf (entries es) = All (length es)
+surveyOf (fault k n) = Refused k n
+
+-- and how many bytes they take
+unfoldable pub measureOf : Held → Answer
+measureOf (entries es) = All (length (bytesOf es))
+measureOf (fault k n) = Refused k n
+
 -- what a call answers, and what then stands in the lent memory
 pub record Outcome : Type 0 where
   pub answer : Answer
   pub lent : List ℕ
+
+-- an answer and memory are those of an outcome
+pub record Leaves (o : Outcome) (answer : Answer) (lent : List ℕ) : Type 0 where
+  pub answers : answer ≡ o .answer
+  pub leaves : lent ≡ o .lent
 
 -- nothing is written
 abbrev pub refused : ℕ → ℕ → List ℕ → Outcome

@@ -1,7 +1,15 @@
 // A rack's record: its entries, their bytes, the reader and the writer.
 ghost use mathlib.Core.Path.{_≡_};
-ghost use Prim.Native.Nat.{_+_, _*_, _≤_};
-ghost use lib.ListN.{length};
+ghost use Prim.Native.Nat.{_+_, _≤_};
+ghost use lib.ListN.{length, getD, set};
+ghost use lib.Seq.{sets};
+ghost use lib.Dec.{eqb};
+ghost use mathlib.Core.Bool.{cond};
+ghost use mathlib.Core.List.{[], _∷_};
+ghost use Rattle.number.specs.Number.{numberAt};
+ghost use Rattle.record.specs.Entry.{entryBytes, upTo, fieldsAt, entryAt, rowOf, rowAt};
+ghost use Rattle.record.specs.Record.{fresh, faultAfter, standingAfter, recordOf, rowsHeld, surveyOf, measureOf, readOutcome, writeOutcome, Leaves};
+ghost use Rattle.record.specs.Storing.{Storable};
 use number::Number;
 
 // A client's number, a replica's and a cell's: kinds of their own.
@@ -32,4 +40,239 @@ pub struct Standing {
 pub enum Answer {
     All(usize),
     Refused(u8, usize),
+}
+
+// The most entries that a record holds.
+pub const ENTRY_LIMIT: usize = 2048;
+
+// A number that may not be above the limit.
+fn read_up_to(s: &[u8], at: usize, limit: u32, refusal: u8) -> Number
+    ensures { λ r. ⌜ r ≡ upTo limit refusal (numberAt (now (s .entry)) at) ⌝ }
+{
+    match number::read_number(s, at) {
+        Number::Refused(k) => Number::Refused(k),
+        Number::Is(n, next) => {
+            if limit < n {
+                Number::Refused(refusal)
+            } else {
+                Number::Is(n, next)
+            }
+        }
+    }
+}
+
+// What follows an entry's kind and client.
+fn read_fields(s: &[u8], at: usize, kind: u32, client: u8) -> Found
+    ensures { λ r. ⌜ r ≡ fieldsAt (now (s .entry)) at kind client ⌝ }
+{
+    if kind == 3 {
+        return Found::At(Entry::Done(Client(client)), at);
+    }
+    if kind == 2 {
+        return match number::read_number(s, at) {
+            Number::Refused(k) => Found::Fault(k),
+            Number::Is(v, next) => Found::At(Entry::Told(Client(client), number::signed(v)), next),
+        };
+    }
+    match read_up_to(s, at, 15, 25) {
+        Number::Refused(k) => Found::Fault(k),
+        Number::Is(cell, next) => {
+            if kind == 0 {
+                return Found::At(Entry::ReadAsked(Client(client), Cell(cell as u8)), next);
+            }
+            match number::read_number(s, next) {
+                Number::Refused(k) => Found::Fault(k),
+                Number::Is(v, last) => Found::At(Entry::WriteAsked(Client(client), Cell(cell as u8), number::signed(v)), last),
+            }
+        }
+    }
+}
+
+// The entry at a place of the bytes.
+pub fn entry_at(s: &[u8], at: usize) -> Found
+    ensures { λ r. ⌜ r ≡ entryAt (now (s .entry)) at ⌝ }
+{
+    match read_up_to(s, at, 3, 24) {
+        Number::Refused(k) => Found::Fault(k),
+        Number::Is(kind, next) => match read_up_to(s, next, 7, 25) {
+            Number::Refused(k) => Found::Fault(k),
+            Number::Is(client, more) => read_fields(s, more, kind, client as u8),
+        },
+    }
+}
+
+// What a client has open. The array is a parameter, so that its length is known.
+fn open_by(has: [u8; 8], client: u8) -> u8
+    ensures { λ r. ⌜ r ≡ getD has client 0 ⌝ }
+{
+    let at = client as usize;
+    if 8 <= at {
+        return 0;
+    }
+    has[at]
+}
+
+// The same with another thing open; a client that isn't there changes nothing.
+fn opened(has: [u8; 8], client: u8, what: u8) -> [u8; 8]
+    ensures { λ r. ⌜ r ≡ set has client what ⌝ }
+{
+    let at = client as usize;
+    if 8 <= at {
+        return has;
+    }
+    let mut next = has;
+    next[at] = what;
+    next
+}
+
+// 0, or the refusal of a client that must have just this open.
+fn unless_open(has: [u8; 8], client: u8, what: u8, refusal: u8) -> u8
+    ensures { λ r. ⌜ r ≡ cond (eqb (getD has client 0) what) 0 refusal ⌝ }
+{
+    if open_by(has, client) == what {
+        0
+    } else {
+        refusal
+    }
+}
+
+impl Standing {
+    // Before the first entry.
+    pub fn fresh() -> Standing
+        ensures { λ r. ⌜ r ≡ fresh ⌝ }
+    {
+        Standing { has: [0u8; 8] }
+    }
+
+    // 26 or 27 if the entry may not come now, else 0.
+    pub fn fault(self, e: Entry) -> u8
+        ensures { λ r. ⌜ r ≡ faultAfter self e ⌝ }
+    {
+        let has = self.has;
+        match e {
+            Entry::ReadAsked(client, _) => unless_open(has, client.0, 0, 26),
+            Entry::WriteAsked(client, _, _) => unless_open(has, client.0, 0, 26),
+            Entry::Told(client, _) => unless_open(has, client.0, 1, 27),
+            Entry::Done(client) => unless_open(has, client.0, 2, 27),
+        }
+    }
+
+    // After the entry.
+    pub fn after(self, e: Entry) -> Standing
+        ensures { λ r. ⌜ r ≡ standingAfter self e ⌝ }
+    {
+        let has = self.has;
+        match e {
+            Entry::ReadAsked(client, _) => Standing { has: opened(has, client.0, 1) },
+            Entry::WriteAsked(client, _, _) => Standing { has: opened(has, client.0, 2) },
+            Entry::Told(client, _) => Standing { has: opened(has, client.0, 0) },
+            Entry::Done(client) => Standing { has: opened(has, client.0, 0) },
+        }
+    }
+}
+
+// How many entries the bytes hold, or the first fault.
+pub fn survey(s: &[u8]) -> Answer
+    ensures { λ r. ⌜ r ≡ surveyOf (recordOf (now (s .entry))) ⌝ }
+{
+    let mut st = Standing::fresh();
+    let mut at = 0;
+    let mut n: usize = 0;
+    while at < s.len() {
+        if n == ENTRY_LIMIT {
+            return Answer::Refused(28, n);
+        }
+        match entry_at(s, at) {
+            Found::Fault(k) => {
+                return Answer::Refused(k, n);
+            }
+            Found::At(e, next) => {
+                let k = st.fault(e);
+                if k != 0 {
+                    return Answer::Refused(k, n);
+                }
+                st = st.after(e);
+                at = next;
+            }
+        }
+        n += 1;
+    }
+    Answer::All(n)
+}
+
+// Four numbers, one after another.
+fn put_row(rows: &mut [u32], at: usize, kind: u32, client: u32, cell: u32, value: u32)
+    requires { ⌜ at + 4 ≤ length (now rows) ⌝ }
+    ensures { λ r. ⌜ now (rows .exit) ≡ sets (now (rows .entry)) at (kind ∷ client ∷ cell ∷ value ∷ []) ⌝ }
+{
+    rows[at] = kind;
+    rows[at + 1] = client;
+    rows[at + 2] = cell;
+    rows[at + 3] = value;
+}
+
+// An entry as a row of four numbers; a field that its kind hasn't got stands as 0.
+fn store_row(rows: &mut [u32], at: usize, e: Entry)
+    requires { ⌜ at + 4 ≤ length (now rows) ⌝ }
+    ensures { λ r. ⌜ now (rows .exit) ≡ sets (now (rows .entry)) at (rowOf e) ⌝ }
+{
+    match e {
+        Entry::ReadAsked(client, cell) => put_row(rows, at, 0, client.0 as u32, cell.0 as u32, 0),
+        Entry::WriteAsked(client, cell, v) => put_row(rows, at, 1, client.0 as u32, cell.0 as u32, number::alternating(v)),
+        Entry::Told(client, v) => put_row(rows, at, 2, client.0 as u32, 0, number::alternating(v)),
+        Entry::Done(client) => put_row(rows, at, 3, client.0 as u32, 0, 0),
+    }
+}
+
+// Stores the n entries that the bytes hold.
+fn store_rows(s: &[u8], n: usize, rows: &mut [u32])
+    requires { ⌜ Storable (recordOf (now s)) n (now rows) ⌝ }
+    ensures { λ r. ⌜ now (rows .exit) ≡ readOutcome (now (s .entry)) (now (rows .entry)) .lent ⌝ }
+{
+    let mut at = 0;
+    let mut i = 0;
+    while i < n {
+        match entry_at(s, at) {
+            Found::Fault(k) => {
+                return;
+            }
+            Found::At(e, next) => {
+                store_row(rows, 4 * i, e);
+                at = next;
+            }
+        }
+        i += 1;
+    }
+}
+
+// Reads a record into lent rows. Two passes, so that a refusal leaves them untouched.
+pub fn read_record(s: &[u8], rows: &mut [u32]) -> Answer
+    ensures { λ r. ⌜ Leaves (readOutcome (now (s .entry)) (now (rows .entry))) r (now (rows .exit)) ⌝ }
+{
+    match survey(s) {
+        Answer::Refused(k, n) => Answer::Refused(k, n),
+        Answer::All(n) => {
+            if rows.len() / 4 < n {
+                return Answer::Refused(20, 0);
+            }
+            store_rows(s, n, rows);
+            Answer::All(n)
+        }
+    }
+}
+
+// The entry of a row of four numbers.
+fn row_entry(kind: u32, client: u8, cell: u8, value: u32) -> Entry
+    ensures { λ r. ⌜ r ≡ entryOf kind client cell value ⌝ }
+{
+    if kind == 0 {
+        return Entry::ReadAsked(Client(client), Cell(cell));
+    }
+    if kind == 1 {
+        return Entry::WriteAsked(Client(client), Cell(cell), number::signed(value));
+    }
+    if kind == 2 {
+        return Entry::Told(Client(client), number::signed(value));
+    }
+    Entry::Done(Client(client))
 }

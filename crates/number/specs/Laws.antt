@@ -1,0 +1,138 @@
+-- How long a number's bytes are, what a refusal to read can be, and what writing leaves.
+use Prim.Native.Nat.{ℕ, zero, suc, _+_, _*_, _/_, _%_, _^_, _<_, _≤_}
+use mathlib.Core.List.{List, [], _∷_}
+use mathlib.Core.Path.{_≡_, refl, ap}
+use mathlib.Core.Bool.{Bool, true, false, cond}
+use mathlib.Core.Logic.{_⊎_, inl, inr, ⊎-elim}
+use native.Mathlib.Omega.{arith}
+use lib.ListN.{length, drop, getD}
+use lib.Seq.{sets, length-sets}
+use lib.Dec.{ltb}
+use borrow.Author.Tests.{lt-ltb, le-ltb, le-leb, lt-leb, ltb-true, ltb-false}
+use Rattle.number.specs.Number.{groupsOf, numberBytes, numberAt, numberOf, taken, endsFirst, lastIsZero, fifthAbove, valueOf, fitsAt, putAnswer, putBytes}
+use Rattle.number.specs.declared.Number.the-variants.{Is, Refused}
+use Rattle.number.specs.declared.Put.the-variants.{Next, NoRoom}
+
+-- ---- the bytes of a number
+
+-- the first number that f + 1 groups don't hold, of which the last is 15 at most
+unfoldable pub top : ℕ → ℕ
+top zero = 16
+top (suc f) = 128 * top f
+
+pub top-least : (f : ℕ) → 16 ≤ top f
+unfolding top
+top-least zero = omega arith
+top-least (suc f) = omega (arith, top-least f)
+
+pub groups-small : (f n : ℕ) → n < 128 → groupsOf f n ≡ n ∷ []
+unfolding groupsOf
+groups-small zero n h = refl
+groups-small (suc f) n h = simp (lt-ltb n 128 h)
+
+pub groups-more : (f n : ℕ) → 128 ≤ n → groupsOf (suc f) n ≡ (128 + n % 128) ∷ groupsOf f (n / 128)
+unfolding groupsOf
+groups-more f n h = simp (le-ltb n 128 h)
+
+pub groups-some : (f n : ℕ) → 1 ≤ length (groupsOf f n)
+unfolding groupsOf
+groups-some zero n = omega arith
+groups-some (suc f) n = go (ltb n 128) refl
+  where
+    go : (t : Bool) → ltb n 128 ≡ t → 1 ≤ length (groupsOf (suc f) n)
+    go true e = omega (arith, ap length (groups-small (suc f) n (ltb-true n 128 e)))
+    go false e = omega (arith, ap length (groups-more f n (ltb-false n 128 e)))
+
+groups-few : (f n : ℕ) → length (groupsOf f n) ≤ suc f
+unfolding groupsOf
+groups-few zero n = omega arith
+groups-few (suc f) n = go (ltb n 128) refl (groups-few f (n / 128))
+  where
+    go : (t : Bool) → ltb n 128 ≡ t → length (groupsOf f (n / 128)) ≤ suc f → length (groupsOf (suc f) n) ≤ suc (suc f)
+    go true e h = omega (arith, ap length (groups-small (suc f) n (ltb-true n 128 e)))
+    go false e h = omega (arith, ap length (groups-more f n (ltb-false n 128 e)))
+
+-- every element is a byte
+abbrev AllBytes : List ℕ → Type 0
+AllBytes bs = (i : ℕ) → getD bs i 0 < 256
+
+first-byte : (b : ℕ) (bs : List ℕ) → b < 256 → AllBytes bs → AllBytes (b ∷ bs)
+first-byte b bs h g zero = h
+first-byte b bs h g (suc i) = g i
+
+no-bytes : AllBytes []
+no-bytes zero = omega arith
+no-bytes (suc i) = omega arith
+
+groups-bytes : (f n : ℕ) → n < top f → AllBytes (groupsOf f n)
+unfolding top
+groups-bytes zero n h = rw (groups-small zero n (omega arith)) (first-byte n [] (omega arith) no-bytes)
+groups-bytes (suc f) n h = go (ltb n 128) refl (groups-bytes f (n / 128) (omega arith))
+  where
+    go : (t : Bool) → ltb n 128 ≡ t → AllBytes (groupsOf f (n / 128)) → AllBytes (groupsOf (suc f) n)
+    go true e ih = let small : n < 128 = ltb-true n 128 e in
+        rw (groups-small (suc f) n small) (first-byte n [] (omega arith) no-bytes)
+    go false e ih = rw (groups-more f n (ltb-false n 128 e)) (first-byte _ (groupsOf f (n / 128)) (omega arith) ih)
+
+-- one byte at least, five at most
+pub length-some : (n : ℕ) → 1 ≤ length (numberBytes n)
+length-some = groups-some 4
+
+pub length-few : (n : ℕ) → length (numberBytes n) ≤ 5
+length-few = groups-few 4
+
+-- a number below 128 is its own byte
+pub bytes-small : (n : ℕ) → n < 128 → numberBytes n ≡ n ∷ []
+bytes-small = groups-small 4
+
+pub bytes-below : (n : ℕ) → n < 2 ^ 32 → (i : ℕ) → getD (numberBytes n) i 0 < 256
+unfolding top
+bytes-below n h = groups-bytes 4 n h
+
+-- ---- refusals
+
+refused : (at k : ℕ) (bs : List ℕ) (e z a : Bool)
+    → cond e (Refused 21) (cond z (Refused 22) (cond a (Refused 23) (Is (valueOf bs) (at + length bs)))) ≡ Refused k → (k ≡ 21) ⊎ ((k ≡ 22) ⊎ (k ≡ 23))
+refused at k bs true z a p = inl (cc)
+refused at k bs false true a p = inr (inl (cc))
+refused at k bs false false true p = inr (inr (cc))
+refused at k bs false false false p = let x : _≡_ {A = ℕ} 0 1 = cc in absurd (omega arith)
+
+-- what is refused is refused with 21, 22 or 23
+pub refusals : (s : List ℕ) (at k : ℕ) → numberAt s at ≡ Refused k → (k ≡ 21) ⊎ ((k ≡ 22) ⊎ (k ≡ 23))
+unfolding numberAt numberOf
+refusals s at k p =
+    let bs = taken 4 (drop at s) in
+    refused at k bs (endsFirst bs) (lastIsZero bs) (fifthAbove bs) p
+
+pub refusal-bounds : (s : List ℕ) (at k : ℕ) → numberAt s at ≡ Refused k → (21 ≤ k) × (k ≤ 23)
+refusal-bounds s at k p = ⊎-elim (λ e. (omega arith, omega arith)) (⊎-elim (λ e. (omega arith, omega arith)) (λ e. (omega arith, omega arith))) (refusals s at k p)
+
+-- ---- writing
+
+module _ (d : List ℕ) (at n : ℕ) where
+  -- where it fits, its bytes stand from place at on, and the place after them is answered
+  pub put-fits : at + length (numberBytes n) ≤ length d → putAnswer d at n ≡ Next (at + length (numberBytes n))
+  unfolding putAnswer
+  put-fits h = simp (le-leb (at + length (numberBytes n)) (length d) h)
+
+  pub put-writes : at + length (numberBytes n) ≤ length d → putBytes d at n ≡ sets d at (numberBytes n)
+  unfolding putBytes
+  put-writes h = simp (le-leb (at + length (numberBytes n)) (length d) h)
+
+  -- where it doesn't, nothing is changed
+  pub put-refused : length d < at + length (numberBytes n) → putAnswer d at n ≡ NoRoom
+  unfolding putAnswer
+  put-refused h = simp (lt-leb (at + length (numberBytes n)) (length d) h)
+
+  pub put-keeps : length d < at + length (numberBytes n) → putBytes d at n ≡ d
+  unfolding putBytes
+  put-keeps h = simp (lt-leb (at + length (numberBytes n)) (length d) h)
+
+  pub put-length : length (putBytes d at n) ≡ length d
+  unfolding putBytes
+  put-length = go (fitsAt d at n)
+    where
+      go : (t : Bool) → length (cond t (sets d at (numberBytes n)) d) ≡ length d
+      go true = length-sets d at (numberBytes n)
+      go false = refl
