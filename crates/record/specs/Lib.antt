@@ -4,5 +4,6 @@ pub mod Record
 pub mod Legal
 -- Laws.
 pub mod Steps
+pub mod RowLaws
 pub mod Wrote
 pub mod Storing

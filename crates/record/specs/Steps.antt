@@ -7,7 +7,7 @@ use native.Mathlib.Omega.{arith}
 use native.Mathlib.Nat.{add-zero, add-assoc}
 use lib.ListN.{length, length-append}
 use lib.Dec.{eqb}
-use borrow.Author.Tests.{eq-eqb, ne-eqb, eqb-true}
+use borrow.Author.Tests.{eq-eqb, ne-eqb, eqb-true, eqb-false}
 use Rattle.record.specs.declared.Entry.{Entry}
 use Rattle.record.specs.declared.Found.{Found}
 use Rattle.record.specs.declared.Found.the-variants.{At, Fault}
@@ -98,6 +98,26 @@ module _ (more : ℕ → Bool) (found : ℕ → Found) where
       go false h r g q = no-empty q
       go true h (Fault k) g q = no-fault q
       go true h (At e′ next) g q = checked (eqb (faultAfter st e′) 0) e′ next h g refl q
+
+-- where nothing is held, nothing stands
+before-some : (e : Entry) (h : Held) → before e h ≡ entries [] → ⊥
+unfolding before
+before-some e (entries es) p = let z : _≡_ {A = ℕ} 0 1 = cc in omega arith
+before-some e (fault k n) p = no-fault p
+
+module _ (more : ℕ → Bool) (found : ℕ → Found) where
+  pub empty : (left at n : ℕ) (st : Standing) → heldFrom more found left at n st ≡ entries [] → more at ≡ true → ⊥
+  unfolding heldFrom enter
+  empty zero at n st p h = no-fault (sym (full more found at n st h) ∙ p)
+  empty (suc left) at n st p h = go (found at) refl
+    where
+      checked : (e : Entry) (next : ℕ) (t : Bool) → found at ≡ At e next → eqb (faultAfter st e) 0 ≡ t → ⊥
+      checked e next true g q = before-some e _ (sym (onward more found left at n st e next h g (eqb-true (faultAfter st e) 0 q)) ∙ p)
+      checked e next false g q = no-fault (sym (misplaced more found left at n st e next h g (eqb-false (faultAfter st e) 0 q)) ∙ p)
+
+      go : (r : Found) → found at ≡ r → ⊥
+      go (Fault k) g = no-fault (sym (unread more found left at n k st h g) ∙ p)
+      go (At e next) g = checked e next (eqb (faultAfter st e) 0) g refl
 
 -- ---- a count of what is held
 

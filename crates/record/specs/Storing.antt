@@ -14,8 +14,8 @@ use Rattle.record.specs.declared.Found.the-variants.{At, Fault}
 use Rattle.record.specs.declared.Standing.{Standing}
 use Rattle.record.specs.declared.Answer.{Answer}
 use Rattle.record.specs.declared.Answer.the-variants.{All, Refused}
-use Rattle.record.specs.Record.{standingAfter, Held, entries, fault, heldFrom, allOf, rowsOf, Outcome, refused, stored, surveyOf, readInto}
-use Rattle.record.specs.Steps.{First, first}
+use Rattle.record.specs.Record.{standingAfter, Held, entries, fault, heldFrom, allOf, rowsOf, bytesOf, Outcome, refused, stored, surveyOf, readInto}
+use Rattle.record.specs.Steps.{First, first, ends, empty}
 use Rattle.record.specs.Wrote.{Wrote, sets-append, sets-front}
 
 -- n entries are held, and their rows fit
@@ -24,6 +24,12 @@ pub record Storable (h : Held) (n : ℕ) (d : List ℕ) : Type 0 where
   pub held : h ≡ entries all
   pub count : length all ≡ n
   pub room : length (rowsOf all) ≤ length d
+
+-- entries are held, and their bytes fit
+pub record Writable (h : Held) (d : List ℕ) : Type 0 where
+  pub all : List Entry
+  pub held : h ≡ entries all
+  pub room : length (bytesOf all) ≤ length d
 
 -- where storing has come to: storing the rest from place out on gives what storing all of it at the front of d₀ gives
 pub record Going (more : ℕ → Bool) (found : ℕ → Found) (f : Entry → List ℕ) (d₀ : List ℕ) (all : List Entry) (d : List ℕ) (at out : ℕ) : Type 0 where
@@ -65,6 +71,20 @@ module _ (more : ℕ → Bool) (found : ℕ → Found) (f : Entry → List ℕ) 
               room = simp length-sets (omega arith);
               long = length-sets d out (f e) ∙ g .long };
             fewer = omega arith }
+
+  -- an entry is left just where one stands
+  pub some-left : (d : List ℕ) (at out : ℕ) (g : Going more found f d₀ all d at out) → more at ≡ true → 0 < length (g .rest)
+  some-left d at out g h = go (g .rest) (g .held)
+    where
+      go : (rest : List Entry) → heldFrom more found (g .left) at (g .n) (g .st) ≡ entries rest → 0 < length rest
+      go [] p = absurd (empty more found (g .left) at (g .n) (g .st) p h)
+      go (e ∷ es) p = omega arith
+
+  pub none-left : (d : List ℕ) (at out : ℕ) (g : Going more found f d₀ all d at out) → more at ≡ false → length (g .rest) ≡ 0
+  none-left d at out g h =
+      let p = sym (g .held) ∙ ends more found (g .left) at (g .n) (g .st) h in
+      let q : g .rest ≡ [] = cc in
+      ap length q
 
   -- the same at equal places
   unfoldable pub same-going : {d d′ : List ℕ} {at at′ out out′ : ℕ} → Going more found f d₀ all d at out → d ≡ d′ → at ≡ at′ → out ≡ out′ → Going more found f d₀ all d′ at′ out′

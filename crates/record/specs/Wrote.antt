@@ -7,6 +7,11 @@ use native.Mathlib.Nat.{add-zero}
 use lib.ListN.{length, length-append, take, drop}
 use lib.Seq.{sets, sets-eq, length-sets}
 
+-- how long a list of numbers is, and a bound of it
+pub record Long (numbers : List ℕ) (most : ℕ) (r : ℕ) : Type 0 where
+  pub is : r ≡ length numbers
+  pub few : r ≤ most
+
 pub record Wrote (before : List ℕ) (at : ℕ) (numbers : List ℕ) (next : ℕ) (after : List ℕ) : Type 0 where
   pub place : next ≡ at + length numbers
   pub list : after ≡ sets before at numbers
@@ -31,3 +36,11 @@ pub sets-front : (xs l : List ℕ) → length xs ≤ length l → sets l 0 xs �
 sets-front xs l h =
     let e : 0 + length xs ≡ length xs = omega arith in
     sets-eq xs l 0 (omega arith) ∙ ap (λ (k : ℕ). xs ++ drop k l) e
+
+-- two lists one after the other
+pub length-joined : {a b : ℕ} (xs ys : List ℕ) → a ≡ length xs → b ≡ length ys → a + b ≡ length (xs ++ ys)
+length-joined xs ys p q = simp length-append (omega arith)
+
+-- the same with a greater bound
+pub longer : {xs : List ℕ} {most more r : ℕ} → Long xs most r → most ≤ more → Long xs more r
+longer w h = record { is = w .is; few = omega (arith, w .few) }
