@@ -51,16 +51,17 @@ module _ (s : List Op) (once : Pairs (λ x y. x .number ≢ y .number) s) (d : D
       record {
         sourced = u .sourced;
         early = λ {w} m. elim (decLt (least (w .number)) none) [
-            no q ↦ omega (arith, q)
+          | no q ↦ omega (arith, q)
           | yes q ↦ absurd (⊎-elim (λ e. omega arith)
-              (λ (r, k, e). let (a, i, f, b) = stops m (k .0) (omega arith) in u .zero (k .0) (k .1) (k .2) (k .3) i (λ g. d .nonzero (m .0) (m .1) (sym f ∙ g)) b) (z .none-at)) ];
+              (λ (r, k, e). let (a, i, f, b) = stops m (k .0) (omega arith) in u .zero (k .0) (k .1) (k .2) (k .3) i (λ g. d .nonzero (m .0) (m .1) (sym f ∙ g)) b) (z .none-at))
+        ];
         clear = λ {w} {x} m n e p q.
             let (b′, i′, f′, g′) = z .high-at n in
             let (a′, j′, h′, k′) = z .high-at m in
             let (a, i, f, g) = stops m (i′ .0) (omega arith) in
             let (b, j, h, k) = stops n (j′ .0) (omega arith) in
             u .crossing a a′ b b′ i j′ j i′ (f ∙ sym h′) (h ∙ sym f′)
-              (λ v. e (ap (λ (o : Op). o .number) (d .apart (m .0) (n .0) (m .1) (n .1) (sym f ∙ (v ∙ h))))) g k;
+            (λ v. e (ap (λ (o : Op). o .number) (d .apart (m .0) (n .0) (m .1) (n .1) (sym f ∙ (v ∙ h))))) g k;
       }
 
   module _ (k : Checked s least most none) where
@@ -90,18 +91,20 @@ module _ (s : List Op) (once : Pairs (λ x y. x .number ≢ y .number) s) (d : D
         let (w, i, g) = owner ma za in
         let (x, j, h) = owner mb zb in
         k .clear i j (λ v. n (g ∙ (ap (λ (o : Op). o .value) (same s once (i .0) (j .0) v) ∙ sym h)))
-          (omega (arith, z .low i (ma .0) (p .0) g, p .1, z .high j mb′ (sym f ∙ h)))
-          (omega (arith, z .low j (mb .0) (q .0) h, q .1, z .high i ma′ (sym e ∙ g)))
+        (omega (arith, z .low i (ma .0) (p .0) g, p .1, z .high j mb′ (sym f ∙ h)))
+        (omega (arith, z .low j (mb .0) (q .0) h, q .1, z .high i ma′ (sym e ∙ g)))
 
     checked-rule : Rule s
     checked-rule =
         record {
           sourced = k .sourced;
           crossing = λ a a′ b b′ ma ma′ mb mb′ e f n p q. elim (ℤ-discrete (a .value) (pos 0)) [
-              yes za ↦ late (zero-read ma′ (sym e ∙ za)) mb (λ zb. n (za ∙ sym zb)) q
+            | yes za ↦ late (zero-read ma′ (sym e ∙ za)) mb (λ zb. n (za ∙ sym zb)) q
             | no za ↦ elim (ℤ-discrete (b .value) (pos 0)) [
-                yes zb ↦ late (zero-read mb′ (sym f ∙ zb)) ma za p
-              | no zb ↦ apart ma ma′ mb mb′ e f n za zb p q ] ];
+              | yes zb ↦ late (zero-read mb′ (sym f ∙ zb)) ma za p
+              | no zb ↦ apart ma ma′ mb mb′ e f n za zb p q
+            ]
+          ];
           zero = λ m w t e n f p. late (m, w, t, e) n f p;
         }
 

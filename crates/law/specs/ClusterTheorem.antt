@@ -107,10 +107,12 @@ digits k l n x y p q = omega (arith, mul-le-mul-right {m = k + 1} {n = l} n (ome
 -- and equal numbers have equal second digits
 second : (k l n x y : ℕ) → x < n → y < n → k * n + x ≡ l * n + y → x ≡ y
 second k l n x y p q e = elim (ℕ-discrete k l) [
-    yes f ↦ (let g = ap (λ i. i * n) f in omega arith)
+  | yes f ↦ (let g = ap (λ i. i * n) f in omega arith)
   | no f ↦ elim (decLt k l) [
-      yes g ↦ absurd (omega (arith, digits k l n x y g p))
-    | no g ↦ absurd (omega (arith, digits l k n y x (omega (arith, f, g)) q)) ] ]
+    | yes g ↦ absurd (omega (arith, digits k l n x y g p))
+    | no g ↦ absurd (omega (arith, digits l k n y x (omega (arith, f, g)) q))
+  ]
+]
 
 abbrev unless : {A : Type 0} → Dec A → ℕ → ℕ
 unless (yes p) n = 0
@@ -159,8 +161,8 @@ unfolding writer
 writer-is s d {w} m t =
     let v = w .value in
     ⊎-elim (λ e. omega (arith, greatest-high (λ x. (x .write ≡ true) × (x .value ≡ v)) (with-value (λ x. x .write ≡ true) write-dec v) (λ x. x .number) s m (t, refl)))
-      (λ (x, n, p, e). sym e ∙ ap (λ (o : Op). o .number) (d .apart n m (p .0) t (p .1)))
-      (greatest-at (λ x. (x .write ≡ true) × (x .value ≡ v)) (with-value (λ x. x .write ≡ true) write-dec v) (λ x. x .number) s)
+    (λ (x, n, p, e). sym e ∙ ap (λ (o : Op). o .number) (d .apart n m (p .0) t (p .1)))
+    (greatest-at (λ x. (x .write ≡ true) × (x .value ≡ v)) (with-value (λ x. x .write ≡ true) write-dec v) (λ x. x .number) s)
 
 -- the key of the cluster of v
 clusterKey : List Op → ℤ → ℕ
@@ -186,10 +188,11 @@ module _ (s : List Op) (sound : (x : Op) → In x s → T (x .over) → x .start
   clusters-rise {a} {b} m n p q e k =
       let l = before-zones s (farOf s) (leastOf s) (mostOf s) (zones-of s) m n k in
       let g : mostOf s (a .value) ≤ leastOf s (b .value) = elim (decLt (leastOf s (b .value)) (mostOf s (a .value))) [
-          yes r ↦ absurd (crossless-clear s (farOf s) (leastOf s) (mostOf s) (zones-of s) (u .crossing) (a .value) (b .value) e l r)
-        | no r ↦ omega (arith, r) ] in
+        | yes r ↦ absurd (crossless-clear s (farOf s) (leastOf s) (mostOf s) (zones-of s) (u .crossing) (a .value) (b .value) e l r)
+        | no r ↦ omega (arith, r)
+      ] in
       let f = digits (clusterKey s (a .value)) (clusterKey s (b .value)) (top s) (writer s (a .value)) (writer s (b .value))
-          (key-rises _ _ _ _ l g) (writer-below s (a .value)) in
+      (key-rises _ _ _ _ l g) (writer-below s (a .value)) in
       omega (arith, other-tag (a .value) p, other-tag (b .value) q)
 
   nonzero-tag : (v : ℤ) → v ≢ pos 0 → 0 < valueTag s v
@@ -197,12 +200,15 @@ module _ (s : List Op) (sound : (x : Op) → In x s → T (x .over) → x .start
 
   rise : {a b : Op} → Member s a → Member s b → Before a b → (a .value ≡ b .value) ⊎ (valueTag s (a .value) < valueTag s (b .value))
   rise {a} {b} m n k = elim (ℤ-discrete (a .value) (b .value)) [
-      yes e ↦ inl e
+    | yes e ↦ inl e
     | no e ↦ inr (elim (ℤ-discrete (a .value) (pos 0)) [
-        yes p ↦ (let q = nonzero-tag (b .value) (λ f. e (p ∙ sym f)) in omega (arith, zero-tag (a .value) p))
+      | yes p ↦ (let q = nonzero-tag (b .value) (λ f. e (p ∙ sym f)) in omega (arith, zero-tag (a .value) p))
       | no p ↦ elim (ℤ-discrete (b .value) (pos 0)) [
-          yes q ↦ absurd (go (b .write) refl q p (n .1))
-        | no q ↦ clusters-rise m n p q e k ] ]) ]
+        | yes q ↦ absurd (go (b .write) refl q p (n .1))
+        | no q ↦ clusters-rise m n p q e k
+      ]
+    ])
+  ]
     where
       go : (w : Bool) → b .write ≡ w → b .value ≡ pos 0 → a .value ≢ pos 0 → (b .write ≡ true) ⊎ T (b .over) → ⊥
       go true f q p t = d .nonzero (n .0) f q
@@ -244,14 +250,15 @@ module _ (s : List Op) (sound : (x : Op) → In x s → T (x .over) → x .start
         above = λ {x} m w. omega (arith, tag-is (m .0), nonzero-tag (x .value) (d .nonzero (m .0) w));
         apart = λ {x} {y} m n w v e. same s once (m .0) (n .0)
             (sym (writer-is s d (m .0) w) ∙ (second (clusterKey s (x .value)) (clusterKey s (y .value)) (top s) (writer s (x .value)) (writer s (y .value))
-              (writer-below s (x .value)) (writer-below s (y .value))
-              (omega (arith, tag-is (m .0), tag-is (n .0), other-tag (x .value) (d .nonzero (m .0) w), other-tag (y .value) (d .nonzero (n .0) v))) ∙ writer-is s d (n .0) v));
+            (writer-below s (x .value)) (writer-below s (y .value))
+            (omega (arith, tag-is (m .0), tag-is (n .0), other-tag (x .value) (d .nonzero (m .0) w), other-tag (y .value) (d .nonzero (n .0) v))) ∙ writer-is s d (n .0) v));
         rises = λ {x} {y} m n b. ⊎-elim (λ e. omega (arith, tag-is (m .0), tag-is (n .0), ap (valueTag s) e)) (λ l. omega (arith, tag-is (m .0), tag-is (n .0))) (rise (member m) (member n) b);
         climbs = λ {x} {y} m n b w. ⊎-elim (λ e. absurd (own (m .0) (n .0) b w e)) (λ l. omega (arith, tag-is (m .0), tag-is (n .0))) (rise (member m) (member n) b);
         reads = λ {x} m w. elim (ℤ-discrete (x .value) (pos 0)) [
-            yes e ↦ inl (tag-is (m .0) ∙ zero-tag (x .value) e, e)
+          | yes e ↦ inl (tag-is (m .0) ∙ zero-tag (x .value) e, e)
           | no e ↦ (let (v, i, t, g, l) = u .sourced x (m .0) w (⊎-elim (λ t. absurd (true≢false (sym t ∙ w))) (λ t. t) (member m .1)) e in
-              inr (v, chosen-is (i, inl t), t, tag-is i ∙ (ap (valueTag s) g ∙ sym (tag-is (m .0))), g)) ];
+              inr (v, chosen-is (i, inl t), t, tag-is i ∙ (ap (valueTag s) g ∙ sym (tag-is (m .0))), g))
+        ];
       }
 
 -- ---- both ways

@@ -43,7 +43,7 @@ module _ (part : ℕ → List Op) (cells : (c : ℕ) (x : Op) → In x (part c) 
       let (w, i, g) = l .of m in
       let (x, j, h) = l .of n in
       k (cell b) .clear (subst (λ c. Write (part c) w) f i) j (λ q. e (sym g ∙ (q ∙ h)))
-        (omega (arith, p .0, ap least g, ap most h)) (omega (arith, p .1, ap least h, ap most g))
+      (omega (arith, p .0, ap least g, ap most h)) (omega (arith, p .1, ap least h, ap most g))
 
   checks : ((c : ℕ) → Sourced (part c)) → Early → Apart → (c : ℕ) → Checked (part c) least most (none c)
   checks s f g c =
@@ -56,8 +56,7 @@ module _ (part : ℕ → List Op) (cells : (c : ℕ) (x : Op) → In x (part c) 
   -- all cells are lawful exactly when reads are sourced and the sweep goes through
   pub judged : ((c : ℕ) → Lawful (part c)) ↔ (((c : ℕ) → Sourced (part c)) × Swept cell least most none ws)
   judged =
-      let w = swept-all cell least most none ws (l .sorted) (l .once) in
-      (
+      let w = swept-all cell least most none ws (l .sorted) (l .once) in (
         λ h. (λ c. checked-of c .0 (h c) .sourced, w .1 (early (λ c. checked-of c .0 (h c)), apart (λ c. checked-of c .0 (h c)))),
         λ (s, t) c. checked-of c .1 (checks s (w .0 t .0) (w .0 t .1) c),
       )

@@ -223,8 +223,7 @@ placed-rises t (z ∷ zs) p r s {x} {y} (here e) (there n) b = (
 )
 placed-rises t (z ∷ zs) p r s {x} {y} (there m) (here f) b = absurd (r .0 x m (subst (Before x) f b))
 placed-rises t (z ∷ zs) p r s {x} {y} (there m) (there n) b =
-    let k = placed-rises (count (z .write) t) zs (p .1) (r .1) (λ o i. s o (there i)) m n b in
-    (
+    let k = placed-rises (count (z .write) t) zs (p .1) (r .1) (λ o i. s o (there i)) m n b in (
       omega (arith, k .0, placed-tail t z x zs (p .0 x m), placed-tail t z y zs (p .0 y n)),
       λ w. omega (arith, k .1 w, placed-tail t z x zs (p .0 x m), placed-tail t z y zs (p .0 y n)),
     )
@@ -249,8 +248,10 @@ placed-reads c m t (z ∷ zs) p cells r {x} (there i) w =
   where
     tail : placed t (z ∷ zs) (x .number) ≡ placed (count (z .write) t) zs (x .number)
     tail = placed-tail t z x zs (p .0 x i)
+
     is-c : z .cell ≡ c
     is-c = cells z (here refl)
+
     go : (b : Bool) → z .write ≡ b → Source c (after m z) (count (z .write) t) zs x → Source c m t (z ∷ zs) x
     go b q (inr (v, j, u, e, f)) = inr (v, there j, u, placed-tail t z v zs (p .0 v j) ∙ (e ∙ sym tail), f)
     go true q (inl (e, f)) = inr (z, here refl, q, placed-head t z z zs refl ∙ sym (tail ∙ e), sym (f ∙ after-write m z c q is-c))
@@ -302,6 +303,7 @@ module _ (s : List Op) (c : ℕ) (cells : (x : Op) → In x s → x .cell ≡ c)
       where
         up : tagOf b ≤ tagOf a
         up = h .rises n m e
+
         go : (p : Bool) → a .write ≡ p → (q : Bool) → b .write ≡ q → Then a b → ⊥
         go true x q y t = omega (arith, h .climbs n m e x, tag-le a b t)
         go false x true y t = let z = ap late x in let w = ap late y in omega (arith, up, then-le a b t)
@@ -332,13 +334,14 @@ module _ (s : List Op) (c : ℕ) (cells : (x : Op) → In x s → x .cell ≡ c)
         from : t < tagOf x → (b : Op) → b .write ≡ true → tagOf b ≡ tagOf x → (b ≡ x) ⊎ In b xs → ⊥
         from m b u e (inl q) = not-both b x q u w
         from m b u e (inr n) = let y = ap late w in let z = ap late u in omega (arith, then-le x b (k .rest .0 b n))
+
         go : Dec (tagOf x ≡ t) → x .value ≡ v
         go (yes e) = k .same-tag x (here refl) w e
         go (no e) =
             let m : t < tagOf x = omega (arith, k .least x (here refl)) in
             ⊎-elim (λ z. absurd (omega (arith, z .0)))
-              (λ (b, n, u, q, y). absurd (from m b u q (mem-cons (k .comes x b (here refl) n u q m))))
-              (h .reads (k .of x (here refl)) w)
+            (λ (b, n, u, q, y). absurd (from m b u q (mem-cons (k .comes x b (here refl) n u q m))))
+            (h .reads (k .of x (here refl)) w)
 
     left-read : (x : Op) (xs : List Op) (t : ℕ) (v : ℤ) → Left (x ∷ xs) t v → x .write ≡ false → Left xs t v
     left-read x xs t v k w =
@@ -359,9 +362,10 @@ module _ (s : List Op) (c : ℕ) (cells : (x : Op) → In x s → x .cell ≡ c)
           rest = k .rest .1;
           least = λ a m. tag-le x a (k .rest .0 a m);
           more = λ a m u. elim (ℕ-discrete (tagOf x) (tagOf a)) [
-              yes e ↦ absurd (differ x a (k .of x (here refl)) (k .of a (there m)) (k .rest .0 a m)
+            | yes e ↦ absurd (differ x a (k .of x (here refl)) (k .of a (there m)) (k .rest .0 a m)
                 (ap (λ (o : Op). o .number) (h .apart (k .of x (here refl)) (k .of a (there m)) w u e)))
-            | no e ↦ omega (arith, e, tag-le x a (k .rest .0 a m)) ];
+            | no e ↦ omega (arith, e, tag-le x a (k .rest .0 a m))
+          ];
           same-tag = λ a m u e. ⊎-elim (λ z. absurd (omega (arith, z .0)))
               (λ (b, n, y, q, z). sym z ∙ ap (λ (o : Op). o .value) (h .apart n (k .of x (here refl)) y w (q ∙ e)))
               (h .reads (k .of a (there m)) u);
@@ -374,6 +378,7 @@ module _ (s : List Op) (c : ℕ) (cells : (x : Op) → In x s → x .cell ≡ c)
       where
         is-c : x .cell ≡ c
         is-c = cells x (k .of x (here refl) .0)
+
         go : (b : Bool) → x .write ≡ b → ((u : ℕ) → Left xs u (after m x c) → Reads (after m x) xs) → Reads (after m x) xs
         go true e f = f (tagOf x) (subst (Left xs (tagOf x)) (sym (after-write m x c e is-c)) (left-write x xs t (m c) k e))
         go false e f = f t (subst (Left xs t) (sym (after-read m x c e)) (left-read x xs t (m c) k e))

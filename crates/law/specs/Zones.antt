@@ -44,7 +44,7 @@ module _ (s : List Op) (far : ℕ) (least most : ℤ → ℕ) (z : Zones s far l
   pub clear-crossless : Clear least most → Crossless s
   clear-crossless c a a′ b b′ ma ma′ mb mb′ e f n p q =
       c (a .value) (b .value) n (subst (λ v. least (a .value) < most v) (sym f) (before-zones ma mb′ p))
-        (subst (λ v. least (b .value) < most v) (sym e) (before-zones mb ma′ q))
+      (subst (λ v. least (b .value) < most v) (sym e) (before-zones mb ma′ q))
 
   pub crossless-clear : Crossless s → Clear least most
   crossless-clear c u v n p q =
@@ -99,8 +99,9 @@ module _ (P : Op → Type 0) (dec : (x : Op) → Dec (P x)) (f : Op → ℕ) whe
       go (no q) (inr (x, m, p, e)) = inr (x, there m, p, e)
       go (yes q) (inl e) = inr (y, here refl, q, omega arith)
       go (yes q) (inr (x, m, p, e)) = elim (decLe (greatest ys) (f y)) [
-          yes l ↦ inr (y, here refl, q, omega arith)
-        | no l ↦ inr (x, there m, p, omega (arith, l)) ]
+        | yes l ↦ inr (y, here refl, q, omega arith)
+        | no l ↦ inr (x, there m, p, omega (arith, l))
+      ]
 
   pub fewest-low : (far : ℕ) (l : List Op) {x : Op} → In x l → P x → fewest far l ≤ f x
   unfolding fewest
@@ -123,11 +124,13 @@ module _ (P : Op → Type 0) (dec : (x : Op) → Dec (P x)) (f : Op → ℕ) whe
       go (no q) (inl e) = inl e
       go (no q) (inr (x, m, p, e)) = inr (x, there m, p, e)
       go (yes q) (inl e) = elim (decLe (f y) (fewest far ys)) [
-          yes l ↦ inr (y, here refl, q, omega arith)
-        | no l ↦ inl (omega (arith, l)) ]
+        | yes l ↦ inr (y, here refl, q, omega arith)
+        | no l ↦ inl (omega (arith, l))
+      ]
       go (yes q) (inr (x, m, p, e)) = elim (decLe (f y) (fewest far ys)) [
-          yes l ↦ inr (y, here refl, q, omega arith)
-        | no l ↦ inr (x, there m, p, omega (arith, l)) ]
+        | yes l ↦ inr (y, here refl, q, omega arith)
+        | no l ↦ inr (x, there m, p, omega (arith, l))
+      ]
 
 pub T-dec : (b : Bool) → Dec (T b)
 T-dec true = yes tt

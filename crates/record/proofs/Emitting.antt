@@ -26,8 +26,11 @@ pub record Emitting (rows bytes₀ bytes : List ℕ) (n out : ℕ) : Type 0 wher
 pub emits : (rows bytes : List ℕ) → Writable (rowsHeld rows) bytes → Emitting rows bytes bytes 0 0
 unfolding rowsHeld
 emits rows bytes w = record {
-  all = w .all; held = w .held; fits = w .room;
-  going = record { left = 2048; n = 0; st = fresh; rest = w .all; held = w .held; same = refl; room = omega (arith, w .room); long = refl } }
+  all = w .all;
+  held = w .held;
+  fits = w .room;
+  going = record { left = 2048; n = 0; st = fresh; rest = w .all; held = w .held; same = refl; room = omega (arith, w .room); long = refl };
+}
 
 module _ (rows bytes₀ bytes : List ℕ) (n out : ℕ) (w : Emitting rows bytes₀ bytes n out) where
   -- the entry that is next
@@ -51,8 +54,11 @@ module _ (rows bytes₀ bytes : List ℕ) (n out : ℕ) (w : Emitting rows bytes
       let place : out + length (entryBytes (x .e)) ≡ out′ = ap (λ (z : Entry). out + length (entryBytes z)) same ∙ sym (r .place) in
       let stored : sets bytes out (entryBytes (x .e)) ≡ bytes′ = ap (λ (z : Entry). sets bytes out (entryBytes z)) same ∙ sym (r .list) in
       record {
-        all = w .all; held = w .held; fits = w .fits;
-        going = same-going (λ i. leb (i + 4) (length rows)) (rowAt rows) entryBytes bytes₀ (w .all) (x .going) stored after place }
+        all = w .all;
+        held = w .held;
+        fits = w .fits;
+        going = same-going (λ i. leb (i + 4) (length rows)) (rowAt rows) entryBytes bytes₀ (w .all) (x .going) stored after place;
+      }
 
   pub emits-long : length bytes ≡ length bytes₀
   emits-long = w .going .long

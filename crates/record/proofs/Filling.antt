@@ -33,9 +33,12 @@ pub record Filling (s rows₀ : List ℕ) (n : ℕ) (rows : List ℕ) (at i : �
 pub fills : (s rows : List ℕ) (n : ℕ) → Storable (recordOf s) n rows → Filling s rows n rows 0 0
 unfolding recordOf
 fills s rows n w = record {
-  all = w .all; held = w .held; fits = w .room;
+  all = w .all;
+  held = w .held;
+  fits = w .room;
   going = record { left = 2048; n = 0; st = fresh; rest = w .all; held = w .held; same = refl; room = omega (arith, w .room); long = refl };
-  count = omega (arith, w .count) }
+  count = omega (arith, w .count);
+}
 
 module _ (s rows₀ : List ℕ) (n : ℕ) (rows : List ℕ) (at i : ℕ) (w : Filling s rows₀ n rows at i) where
   -- the entry that is next
@@ -58,9 +61,12 @@ module _ (s rows₀ : List ℕ) (n : ℕ) (rows : List ℕ) (at i : ℕ) (w : Fi
       let out : 4 * i + length (rowOf (x .e)) ≡ 4 * (i + 1) = omega (arith, row-four (x .e)) in
       let stored : sets rows (4 * i) (rowOf (x .e)) ≡ rows′ = ap (λ (z : Entry). sets rows (4 * i) (rowOf z)) same ∙ sym r in
       record {
-        all = w .all; held = w .held; fits = w .fits;
+        all = w .all;
+        held = w .held;
+        fits = w .fits;
         going = same-going (λ j. ltb j (length s)) (entryAt s) rowOf rows₀ (w .all) (x .going) stored place out;
-        count = omega (arith, w .count, x .fewer) }
+        count = omega (arith, w .count, x .fewer);
+      }
 
   pub fills-long : length rows ≡ length rows₀
   fills-long = w .going .long

@@ -89,9 +89,15 @@ module _ (more : ℕ → Bool) (found : ℕ → Found) where
       checked true e′ next h g t q =
           let b = before-inv e′ e (heldFrom more found left next (n + 1) (standingAfter st e′)) es q in
           let same : e′ ≡ e = b .0 in
-          record { fewer = left; less = refl; stands = h; next = next; is = g ∙ ap (λ (x : Entry). At x next) same;
+          record {
+            fewer = left;
+            less = refl;
+            stands = h;
+            next = next;
+            is = g ∙ ap (λ (x : Entry). At x next) same;
             may = ap (faultAfter st) (sym same) ∙ eqb-true (faultAfter st e′) 0 t;
-            others = ap (λ (x : Entry). heldFrom more found left next (n + 1) (standingAfter st x)) (sym same) ∙ b .1 }
+            others = ap (λ (x : Entry). heldFrom more found left next (n + 1) (standingAfter st x)) (sym same) ∙ b .1;
+          }
 
       go : (t : Bool) → more at ≡ t → (r : Found) → found at ≡ r
           → cond t (enter n st r (λ next st′. heldFrom more found left next (n + 1) st′)) (entries []) ≡ entries (e ∷ es) → First more found (suc left) at n st e es
@@ -209,6 +215,8 @@ module _ (more : ℕ → Bool) (found : ℕ → Found) (w : Entry → ℕ) (whol
   counts-on e next h l g z =
       let o = one-more l in
       record {
-        left = o .0; limit = o .1 .1;
+        left = o .0;
+        limit = o .1 .1;
         same = at-left (o .0) (o .1 .0) ∙ ap (tally w sum) (onward more found (o .0) at n st e next h g z)
-            ∙ tally-before w sum e (heldFrom more found (o .0) next (n + 1) (standingAfter st e)) }
+            ∙ tally-before w sum e (heldFrom more found (o .0) next (n + 1) (standingAfter st e));
+      }

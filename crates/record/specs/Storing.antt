@@ -64,13 +64,23 @@ module _ (more : ℕ → Bool) (found : ℕ → Found) (f : Entry → List ℕ) 
           let w = first more found (g .left) at (g .n) (g .st) e es p in
           let long : length (f e ++ allOf f es) ≡ length (f e) + length (allOf f es) = length-append (f e) (allOf f es) in
           record {
-            e = e; next = w .next; stands = w .stands; is = w .is; room = omega arith;
+            e = e;
+            next = w .next;
+            stands = w .stands;
+            is = w .is;
+            room = omega arith;
             going = record {
-              left = w .fewer; n = g .n + 1; st = standingAfter (g .st) e; rest = es; held = w .others;
+              left = w .fewer;
+              n = g .n + 1;
+              st = standingAfter (g .st) e;
+              rest = es;
+              held = w .others;
               same = sets-append d out (f e) (allOf f es) ∙ same;
               room = simp length-sets (omega arith);
-              long = length-sets d out (f e) ∙ g .long };
-            fewer = omega arith }
+              long = length-sets d out (f e) ∙ g .long;
+            };
+            fewer = omega arith;
+          }
 
   -- an entry is left just where one stands
   pub some-left : (d : List ℕ) (at out : ℕ) (g : Going more found f d₀ all d at out) → more at ≡ true → 0 < length (g .rest)
@@ -89,8 +99,15 @@ module _ (more : ℕ → Bool) (found : ℕ → Found) (f : Entry → List ℕ) 
   -- the same at equal places
   unfoldable pub same-going : {d d′ : List ℕ} {at at′ out out′ : ℕ} → Going more found f d₀ all d at out → d ≡ d′ → at ≡ at′ → out ≡ out′ → Going more found f d₀ all d′ at′ out′
   same-going g p q r = record {
-    left = g .left; n = g .n; st = g .st; rest = g .rest; held = rw (← q) (g .held); same = rw (← p, ← r) (g .same);
-    room = rw (← p, ← r) (g .room); long = rw (← p) (g .long) }
+    left = g .left;
+    n = g .n;
+    st = g .st;
+    rest = g .rest;
+    held = rw (← q) (g .held);
+    same = rw (← p, ← r) (g .same);
+    room = rw (← p, ← r) (g .room);
+    long = rw (← p) (g .long);
+  }
 
   -- nothing is left, so all of it stands at the front
   pub finish : (d : List ℕ) (at out : ℕ) (g : Going more found f d₀ all d at out) → length (g .rest) ≡ 0 → length (allOf f all) ≤ length d₀

@@ -16,7 +16,9 @@ use number::Put;
 
 // A client's number, a replica's and a cell's: kinds of their own.
 pub struct Client(pub u8);
+
 pub struct Replica(pub u8);
+
 pub struct Cell(pub u8);
 
 // An entry of the record.
@@ -84,7 +86,10 @@ fn read_fields(s: &[u8], at: usize, kind: u32, client: u8) -> Found
             }
             match number::read_number(s, next) {
                 Number::Refused(k) => Found::Fault(k),
-                Number::Is(v, last) => Found::At(Entry::WriteAsked(Client(client), Cell(cell as u8), number::signed(v)), last),
+                Number::Is(v, last) => Found::At(
+                    Entry::WriteAsked(Client(client), Cell(cell as u8), number::signed(v)),
+                    last,
+                ),
             }
         }
     }
@@ -165,10 +170,18 @@ impl Standing {
     {
         let has = self.has;
         match e {
-            Entry::ReadAsked(client, _) => Standing { has: opened(has, client.0, 1) },
-            Entry::WriteAsked(client, _, _) => Standing { has: opened(has, client.0, 2) },
-            Entry::Told(client, _) => Standing { has: opened(has, client.0, 0) },
-            Entry::Done(client) => Standing { has: opened(has, client.0, 0) },
+            Entry::ReadAsked(client, _) => Standing {
+                has: opened(has, client.0, 1),
+            },
+            Entry::WriteAsked(client, _, _) => Standing {
+                has: opened(has, client.0, 2),
+            },
+            Entry::Told(client, _) => Standing {
+                has: opened(has, client.0, 0),
+            },
+            Entry::Done(client) => Standing {
+                has: opened(has, client.0, 0),
+            },
         }
     }
 }
@@ -220,7 +233,14 @@ fn store_row(rows: &mut [u32], at: usize, e: Entry)
 {
     match e {
         Entry::ReadAsked(client, cell) => put_row(rows, at, 0, client.0 as u32, cell.0 as u32, 0),
-        Entry::WriteAsked(client, cell, v) => put_row(rows, at, 1, client.0 as u32, cell.0 as u32, number::alternating(v)),
+        Entry::WriteAsked(client, cell, v) => put_row(
+            rows,
+            at,
+            1,
+            client.0 as u32,
+            cell.0 as u32,
+            number::alternating(v),
+        ),
         Entry::Told(client, v) => put_row(rows, at, 2, client.0 as u32, 0, number::alternating(v)),
         Entry::Done(client) => put_row(rows, at, 3, client.0 as u32, 0, 0),
     }
@@ -277,15 +297,28 @@ fn row_found(kind: u32, client: u32, cell: u32, value: u32, next: usize) -> Foun
         return Found::At(Entry::Done(Client(client as u8)), next);
     }
     if kind == 2 {
-        return Found::At(Entry::Told(Client(client as u8), number::signed(value)), next);
+        return Found::At(
+            Entry::Told(Client(client as u8), number::signed(value)),
+            next,
+        );
     }
     if 15 < cell {
         return Found::Fault(25);
     }
     if kind == 0 {
-        return Found::At(Entry::ReadAsked(Client(client as u8), Cell(cell as u8)), next);
+        return Found::At(
+            Entry::ReadAsked(Client(client as u8), Cell(cell as u8)),
+            next,
+        );
     }
-    Found::At(Entry::WriteAsked(Client(client as u8), Cell(cell as u8), number::signed(value)), next)
+    Found::At(
+        Entry::WriteAsked(
+            Client(client as u8),
+            Cell(cell as u8),
+            number::signed(value),
+        ),
+        next,
+    )
 }
 
 // The row at a place of the lent rows.
@@ -321,7 +354,12 @@ fn entry_length(e: Entry) -> usize
 {
     match e {
         Entry::ReadAsked(client, cell) => three_length(0, client.0 as u32, cell.0 as u32),
-        Entry::WriteAsked(client, cell, v) => four_length(1, client.0 as u32, cell.0 as u32, number::alternating(v)),
+        Entry::WriteAsked(client, cell, v) => four_length(
+            1,
+            client.0 as u32,
+            cell.0 as u32,
+            number::alternating(v),
+        ),
         Entry::Told(client, v) => three_length(2, client.0 as u32, number::alternating(v)),
         Entry::Done(client) => two_length(3, client.0 as u32),
     }
@@ -400,7 +438,14 @@ fn put_entry(bytes: &mut [u8], at: usize, e: Entry) -> usize
 {
     match e {
         Entry::ReadAsked(client, cell) => put_three(bytes, at, 0, client.0 as u32, cell.0 as u32),
-        Entry::WriteAsked(client, cell, v) => put_four(bytes, at, 1, client.0 as u32, cell.0 as u32, number::alternating(v)),
+        Entry::WriteAsked(client, cell, v) => put_four(
+            bytes,
+            at,
+            1,
+            client.0 as u32,
+            cell.0 as u32,
+            number::alternating(v),
+        ),
         Entry::Told(client, v) => put_three(bytes, at, 2, client.0 as u32, number::alternating(v)),
         Entry::Done(client) => put_two(bytes, at, 3, client.0 as u32),
     }
