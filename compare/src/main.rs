@@ -1,19 +1,23 @@
 //! Compares the Rattle library with the independent program of this folder.
 
+#![forbid(unsafe_code)]
+
 mod check;
-mod lent;
 mod numbers;
 mod rattle;
 mod reader;
+mod response;
 mod round_trips;
 mod sheet;
 mod writer;
 
-use check::{Checked, Checker};
+use check::{Checked, Checker, Trouble};
 use compare::random::Random;
 use compare::samples;
 use std::path::Path;
 use std::process::ExitCode;
+use std::sync::Mutex;
+use std::thread;
 use std::time::Instant;
 
 const USAGE: &str = "usage: compare [all | records | bench-sheet] [--seed NUMBER]
@@ -53,15 +57,14 @@ fn all(seed: u64) -> bool {
 
 fn bench_sheet() -> bool {
     match sheet::bench_sheet() {
-        Ok(lines) => {
+        Ok((lines, 0)) => {
             println!("bench sheet: {lines} lines, all as the paper says");
-            true
+            return true;
         }
-        Err(differing) => {
-            println!("bench sheet: {differing} lines DIFFER from the paper");
-            false
-        }
+        Ok((_, differing)) => println!("bench sheet: {differing} lines DIFFER from the paper"),
+        Err(error) => println!("bench sheet: FAILED: {error}"),
     }
+    false
 }
 
 type Family = fn(&mut Checker, &mut Random) -> Checked;
@@ -74,23 +77,40 @@ const FAMILIES: [(&str, Family); 5] = [
     ("round trips", round_trips::round_trips),
 ];
 
-/// Each family has its own generator from the same seed, so one can be changed and the others see what they saw.
+/// Runs a family and says how many inputs it tried and how many seconds it took. Each has its own generator from the same
+/// seed, so one can be changed and the others see what they saw, and its own host, so they can run beside each other.
+fn run(name: &str, family: Family, seed: u64) -> (u64, f64) {
+    let begun = Instant::now();
+    let tried = Checker::new().map_err(Trouble::from).and_then(|mut checker| {
+        family(&mut checker, &mut Random::from_seed(seed))?;
+        checker.settle()?;
+        Ok(checker.tried)
+    });
+    match tried {
+        Ok(tried) => (tried, begun.elapsed().as_secs_f64()),
+        Err(trouble) => end_with(name, trouble, seed),
+    }
+}
+
+/// The first family in trouble ends the program; another that is in trouble too waits here for that end.
+fn end_with(name: &str, trouble: Trouble, seed: u64) -> ! {
+    static FIRST: Mutex<()> = Mutex::new(());
+    let _held_until_the_end = FIRST.lock();
+    println!("{name}: {trouble}\n  seed {seed}");
+    println!("compare: the library and the paper DO NOT AGREE");
+    std::process::exit(1)
+}
+
 fn records(seed: u64) -> bool {
     println!("compare: seed {seed}");
-    let mut checker = Checker::new();
-    let mut total = 0;
-    for (name, family) in FAMILIES {
-        let begun = Instant::now();
-        let outcome = family(&mut checker, &mut Random::from_seed(seed));
-        let tried = checker.take_tried();
-        total += tried;
-        if let Err(disagreement) = outcome {
-            println!("{name}: {disagreement}\n  input {tried} of {name}, seed {seed}");
-            println!("compare: DISAGREEMENT after {total} inputs");
-            return false;
-        }
-        println!("{name}: {tried} tried, {:.1} s", begun.elapsed().as_secs_f64());
+    let outcomes = thread::scope(|scope| {
+        let running = FAMILIES.map(|(name, family)| scope.spawn(move || run(name, family, seed)));
+        running.map(|thread| thread.join().expect("a family's thread ends"))
+    });
+    for ((name, _), (tried, seconds)) in FAMILIES.iter().zip(outcomes) {
+        println!("{name}: {tried} tried, {seconds:.1} s");
     }
+    let total: u64 = outcomes.iter().map(|(tried, _)| tried).sum();
     println!("compare: {total} inputs, all agree");
     true
 }

@@ -9,7 +9,7 @@ impl Random {
         Random { state: seed }
     }
 
-    pub fn next(&mut self) -> u64 {
+    pub fn next_u64(&mut self) -> u64 {
         self.state = self.state.wrapping_add(0x9E37_79B9_7F4A_7C15);
         let mut mixed = self.state;
         mixed = (mixed ^ (mixed >> 30)).wrapping_mul(0xBF58_476D_1CE4_E5B9);
@@ -18,16 +18,16 @@ impl Random {
     }
 
     pub fn word(&mut self) -> u32 {
-        (self.next() >> 32) as u32
+        (self.next_u64() >> 32) as u32
     }
 
     pub fn byte(&mut self) -> u8 {
-        (self.next() >> 56) as u8
+        (self.next_u64() >> 56) as u8
     }
 
     /// A number below `limit`, which isn't 0. That the low ones come a trifle more often doesn't matter here.
     pub fn below(&mut self, limit: usize) -> usize {
-        (self.next() % limit as u64) as usize
+        (self.next_u64() % limit as u64) as usize
     }
 
     pub fn one_in(&mut self, limit: usize) -> bool {
@@ -53,12 +53,12 @@ mod tests {
     fn the_same_seed_gives_the_same_numbers() {
         let (mut one, mut other) = (Random::from_seed(7), Random::from_seed(7));
         for _ in 0..100 {
-            assert_eq!(one.next(), other.next());
+            assert_eq!(one.next_u64(), other.next_u64());
         }
     }
 
     #[test]
     fn splitmix64_of_seed_0_begins_as_published() {
-        assert_eq!(Random::from_seed(0).next(), 0xE220_A839_7B1D_CDAF);
+        assert_eq!(Random::from_seed(0).next_u64(), 0xE220_A839_7B1D_CDAF);
     }
 }

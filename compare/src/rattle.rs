@@ -1,83 +1,110 @@
-//! The Rattle library, called as include/adzequarry.h says. The only unsafe code of the comparison.
+//! The Rattle library, which runs in the program of host/ and is asked in batches over its standard input and output.
+//!
+//! Requests and responses are as host/host.c says; answers are as include/adzequarry.h says.
 
-use compare::paper::number::Number;
-use compare::paper::Refusal;
+use std::env;
+use std::io::{self, Read, Write};
+use std::path::PathBuf;
+use std::process::{Child, ChildStdin, ChildStdout, Command, Stdio};
 
-extern "C" {
-    fn adze_read_number(bytes: *const u8, length: usize, at: usize) -> u64;
-    fn adze_write_number(bytes: *mut u8, length: usize, at: usize, n: u32) -> u64;
-    fn adze_alternating(v: i32) -> u32;
-    fn adze_signed(n: u32) -> i32;
-    fn adze_read_record(bytes: *const u8, length: usize, rows: *mut u32, words: usize) -> u64;
-    fn adze_write_record(rows: *const u32, words: usize, bytes: *mut u8, length: usize) -> u64;
-}
-
-/// What a call gave back, taken apart as the header says.
+/// The calls of the header under the host's numbers, and the two round trips that the host makes of them.
 #[derive(Clone, Copy, Debug, PartialEq, Eq)]
-pub enum Reply<T, R> {
-    Answer(Result<T, R>),
-    /// Bits are set that the header says are 0.
-    Unreadable(u64),
+#[repr(u32)]
+pub enum Call {
+    ReadNumber = 1,
+    WriteNumber,
+    Alternating,
+    Signed,
+    ReadRecord,
+    WriteRecord,
+    WriteThenRead,
+    ReadThenWrite,
 }
 
-pub fn read_number(bytes: &[u8], at: usize) -> Reply<Number, u8> {
-    // SAFETY: the pointer and the count are those of one slice, which the call only reads.
-    let answer = unsafe { adze_read_number(bytes.as_ptr(), bytes.len(), at) };
-    match (low_half(answer), refusal_bits(answer), taken_bits(answer), answer >> 48) {
-        (number, 0, taken, 0) => Reply::Answer(Ok(Number { number, taken: taken.into() })),
-        (0, refusal, 0, 0) => Reply::Answer(Err(refusal)),
-        _ => Reply::Unreadable(answer),
+/// What is lent to a call to be read.
+#[derive(Clone, Copy)]
+pub enum Source<'lent> {
+    Bytes(&'lent [u8]),
+    Words(&'lent [u32]),
+}
+
+/// One call with all that it is given. `lent` counts the elements that it may write to.
+pub struct Request<'lent> {
+    pub call: Call,
+    pub source: Source<'lent>,
+    pub lent: usize,
+    pub number: u32,
+    pub at: usize,
+}
+
+impl Request<'_> {
+    pub fn put_to(&self, batch: &mut Vec<u8>) {
+        let length = match self.source {
+            Source::Bytes(bytes) => bytes.len(),
+            Source::Words(words) => words.len(),
+        };
+        for word in [self.call as u32, length as u32, self.lent as u32, self.number] {
+            batch.extend(word.to_le_bytes());
+        }
+        batch.extend((self.at as u64).to_le_bytes());
+        match self.source {
+            Source::Bytes(bytes) => batch.extend(bytes),
+            Source::Words(words) => batch.extend(words.iter().flat_map(|word| word.to_le_bytes())),
+        }
     }
 }
 
-pub fn write_number(bytes: &mut [u8], at: usize, number: u32) -> Reply<usize, u8> {
-    // SAFETY: the pointer and the count are those of one slice, lent to this call alone.
-    let answer = unsafe { adze_write_number(bytes.as_mut_ptr(), bytes.len(), at, number) };
-    match (low_half(answer), refusal_bits(answer), taken_bits(answer), answer >> 48) {
-        (0, 0, taken, 0) => Reply::Answer(Ok(taken.into())),
-        (0, refusal, 0, 0) => Reply::Answer(Err(refusal)),
-        _ => Reply::Unreadable(answer),
+/// The host while it runs.
+pub struct Library {
+    host: Child,
+    requests: ChildStdin,
+    responses: ChildStdout,
+}
+
+impl Library {
+    /// Starts the host: `run-host` of the folder above that of this program, or what ADZEQUARRY_HOST names.
+    pub fn start() -> io::Result<Library> {
+        let path = match env::var_os("ADZEQUARRY_HOST") {
+            Some(path) => PathBuf::from(path),
+            None => env::current_exe()?.with_file_name("../run-host"),
+        };
+        let mut host = Command::new(&path)
+            .stdin(Stdio::piped())
+            .stdout(Stdio::piped())
+            .spawn()
+            .map_err(|error| io::Error::new(error.kind(), format!("{} can't be run: {error}", path.display())))?;
+        let (requests, responses) = (host.stdin.take(), host.stdout.take());
+        match (requests, responses) {
+            (Some(requests), Some(responses)) => Ok(Library { host, requests, responses }),
+            _ => Err(io::Error::other("the host has no pipes")),
+        }
+    }
+
+    /// Has the host do a batch of requests and gives its responses.
+    pub fn ask(&mut self, batch: &[u8]) -> io::Result<Vec<u8>> {
+        self.transfer(batch).map_err(|error| {
+            // A pipe that is closed is one of a host that has ended, or is about to.
+            let how = self.host.wait().map_or_else(|error| error.to_string(), |status| status.to_string());
+            io::Error::new(error.kind(), format!("the host with the Rattle library doesn't answer, but ended ({how})"))
+        })
+    }
+
+    fn transfer(&mut self, batch: &[u8]) -> io::Result<Vec<u8>> {
+        self.requests.write_all(&(batch.len() as u32).to_le_bytes())?;
+        self.requests.write_all(batch)?;
+        self.requests.flush()?;
+        let mut length = [0; 4];
+        self.responses.read_exact(&mut length)?;
+        let mut responses = vec![0; u32::from_le_bytes(length) as usize];
+        self.responses.read_exact(&mut responses)?;
+        Ok(responses)
     }
 }
 
-pub fn alternating(v: i32) -> u32 {
-    // SAFETY: the call takes a number and lends nothing.
-    unsafe { adze_alternating(v) }
-}
-
-pub fn signed(n: u32) -> i32 {
-    // SAFETY: the call takes a number and lends nothing.
-    unsafe { adze_signed(n) }
-}
-
-pub fn read_record(bytes: &[u8], words: &mut [u32]) -> Reply<usize, Refusal> {
-    // SAFETY: each pointer and count are those of one slice; the first is only read, the second lent to this call alone.
-    let answer = unsafe { adze_read_record(bytes.as_ptr(), bytes.len(), words.as_mut_ptr(), words.len()) };
-    record_reply(answer)
-}
-
-pub fn write_record(words: &[u32], bytes: &mut [u8]) -> Reply<usize, Refusal> {
-    // SAFETY: each pointer and count are those of one slice; the first is only read, the second lent to this call alone.
-    let answer = unsafe { adze_write_record(words.as_ptr(), words.len(), bytes.as_mut_ptr(), bytes.len()) };
-    record_reply(answer)
-}
-
-fn record_reply(answer: u64) -> Reply<usize, Refusal> {
-    match (low_half(answer), refusal_bits(answer), answer >> 40) {
-        (count, 0, 0) => Reply::Answer(Ok(count as usize)),
-        (entry, number, 0) => Reply::Answer(Err(Refusal { number, entry })),
-        _ => Reply::Unreadable(answer),
+impl Drop for Library {
+    /// The host ends by itself when it waits for a batch and its input ends; one that hangs in a call is ended.
+    fn drop(&mut self) {
+        let _ = self.host.kill();
+        let _ = self.host.wait();
     }
-}
-
-fn low_half(answer: u64) -> u32 {
-    answer as u32
-}
-
-fn refusal_bits(answer: u64) -> u8 {
-    (answer >> 32) as u8
-}
-
-fn taken_bits(answer: u64) -> u8 {
-    (answer >> 40) as u8
 }

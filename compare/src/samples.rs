@@ -212,7 +212,7 @@ pub fn write_to(folder: &Path) -> io::Result<usize> {
     Ok(files.len())
 }
 
-/// What is wrong with the folder, a line each; nothing when every file is there byte for byte and no other.
+/// What is wrong with the folder, a line each; nothing when every file is there byte for byte and no other record.
 pub fn faults_of(folder: &Path) -> io::Result<Vec<String>> {
     let files = files();
     let mut faults = Vec::new();
@@ -225,7 +225,8 @@ pub fn faults_of(folder: &Path) -> io::Result<Vec<String>> {
     }
     for found in fs::read_dir(folder)? {
         let name = found?.file_name();
-        if !files.iter().any(|(file, _)| name == *file) {
+        let is_record = Path::new(&name).extension().is_some_and(|extension| extension == "rec");
+        if is_record && !files.iter().any(|(file, _)| name == *file) {
             faults.push(format!("{} is no sample", name.to_string_lossy()));
         }
     }

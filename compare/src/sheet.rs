@@ -2,8 +2,12 @@
 //! paper's words.
 
 use crate::check::hex;
-use crate::rattle::{self, Reply};
+use crate::rattle::{Call, Library, Request, Source};
+use crate::response::{
+    answer_in_words, answer_to_number_read, answer_to_number_written, answer_to_record, FENCE, MEMORY_AT,
+};
 use compare::paper::number::Number;
+use std::io;
 
 /// "127 is 7F": the number, and the bytes that the paper gives for it.
 const NUMBERS: [(u32, &str); 4] = [(127, "7F"), (128, "80 01"), (300, "AC 02"), (4_294_967_295, "FF FF FF FF 0F")];
@@ -24,43 +28,38 @@ struct Line {
     library: String,
 }
 
-/// Prints the table, and says how many lines it has, or how many differ from the paper.
-pub fn bench_sheet() -> Result<u64, usize> {
-    let lines = lines();
+/// Prints the table, and says how many lines it has and how many of them differ from the paper.
+pub fn bench_sheet() -> io::Result<(usize, usize)> {
+    let lines = lines(&mut Library::start()?)?;
     println!("{:26} {:15} library", "bench sheet", "paper");
     for Line { title, paper, library } in &lines {
         let mark = if paper == library { "" } else { "  DIFFERS" };
         println!("{title:26} {paper:15} {library}{mark}");
     }
-    match lines.iter().filter(|line| line.paper != line.library).count() {
-        0 => Ok(lines.len() as u64),
-        differing => Err(differing),
-    }
+    let differing = lines.iter().filter(|line| line.paper != line.library).count();
+    Ok((lines.len(), differing))
 }
 
-fn lines() -> Vec<Line> {
-    let numbers = NUMBERS.iter().flat_map(|(number, bytes)| {
-        let written = Line { title: number.to_string(), paper: bytes.to_string(), library: written(*number) };
-        let read = Line { title: bytes.to_string(), paper: number.to_string(), library: read(bytes) };
-        [written, read]
-    });
-    let values = VALUES.iter().flat_map(|(value, bytes)| {
-        let title = format!("value {value}");
-        let library = written(rattle::alternating(*value));
-        let written = Line { title, paper: bytes.to_string(), library };
-        let title = format!("{bytes} as a value");
-        let read = Line { title, paper: value.to_string(), library: read_as_value(bytes) };
-        [written, read]
-    });
-    let refused = REFUSED.iter().map(|(bytes, refusal)| {
-        let paper = format!("refused {refusal}");
-        Line { title: bytes.to_string(), paper, library: read(bytes) }
-    });
-    let records = RECORDS.iter().map(|(bytes, entries)| {
+fn lines(library: &mut Library) -> io::Result<Vec<Line>> {
+    let mut lines = Vec::new();
+    let mut add = |title: String, paper: String, library: String| lines.push(Line { title, paper, library });
+    for (number, bytes) in NUMBERS {
+        add(number.to_string(), bytes.to_string(), written(library, number)?);
+        add(bytes.to_string(), number.to_string(), read(library, bytes)?);
+    }
+    for (value, bytes) in VALUES {
+        let number = one_number(library, Call::Alternating, value as u32)?;
+        add(format!("value {value}"), bytes.to_string(), written(library, number)?);
+        add(format!("{bytes} as a value"), value.to_string(), read_as_value(library, bytes)?);
+    }
+    for (bytes, refusal) in REFUSED {
+        add(bytes.to_string(), format!("refused {refusal}"), read(library, bytes)?);
+    }
+    for (bytes, entries) in RECORDS {
         let title = format!("record of {} bytes", bytes_from(bytes).len());
-        Line { title, paper: format!("{entries} entries"), library: entries_of(bytes) }
-    });
-    numbers.chain(values).chain(refused).chain(records).collect()
+        add(title, format!("{entries} entries"), entries_of(library, bytes)?);
+    }
+    Ok(lines)
 }
 
 fn bytes_from(written: &str) -> Vec<u8> {
@@ -68,35 +67,59 @@ fn bytes_from(written: &str) -> Vec<u8> {
     written.split_whitespace().map(byte).collect()
 }
 
-fn written(number: u32) -> String {
-    let mut bytes = [0; 5];
-    match rattle::write_number(&mut bytes, 0, number) {
-        Reply::Answer(Ok(taken)) if taken <= bytes.len() => hex(&bytes[..taken]),
-        other => format!("{other:?}"),
+/// One call alone: the answer, and the memory that was lent.
+fn call(library: &mut Library, call: Call, bytes: &[u8], lent: usize, number: u32) -> io::Result<(u64, Vec<u8>)> {
+    let mut batch = Vec::new();
+    Request { call, source: Source::Bytes(bytes), lent, number, at: 0 }.put_to(&mut batch);
+    let response = library.ask(&batch)?;
+    match response.split_at_checked(MEMORY_AT + FENCE) {
+        Some((head, memory)) => {
+            let answer = head[..8].try_into().map(u64::from_le_bytes).expect("an answer has eight bytes");
+            Ok((answer, memory.to_vec()))
+        }
+        None => Err(io::Error::other("the host's response is too short")),
     }
 }
 
-fn read(written: &str) -> String {
+fn written(library: &mut Library, number: u32) -> io::Result<String> {
+    let (answer, memory) = call(library, Call::WriteNumber, &[], 5, number)?;
+    let taken = (answer >> 40) as usize;
+    if taken > 5 || answer != answer_to_number_written(Ok(taken)) {
+        return Ok(answer_in_words(answer));
+    }
+    Ok(hex(&memory[..taken]))
+}
+
+fn read(library: &mut Library, written: &str) -> io::Result<String> {
     let bytes = bytes_from(written);
-    match rattle::read_number(&bytes, 0) {
-        Reply::Answer(Ok(Number { number, taken })) if taken == bytes.len() => number.to_string(),
-        Reply::Answer(Err(refusal)) => format!("refused {refusal}"),
-        other => format!("{other:?}"),
+    let (answer, _) = call(library, Call::ReadNumber, &bytes, 0, 0)?;
+    let (number, refusal, taken) = (answer as u32, (answer >> 32) as u8, bytes.len());
+    if answer == answer_to_number_read(Ok(Number { number, taken })) {
+        return Ok(number.to_string());
+    }
+    if answer == answer_to_number_read(Err(refusal)) {
+        return Ok(format!("refused {refusal}"));
+    }
+    Ok(answer_in_words(answer))
+}
+
+fn one_number(library: &mut Library, which: Call, number: u32) -> io::Result<u32> {
+    call(library, which, &[], 0, number).map(|(answer, _)| answer as u32)
+}
+
+fn read_as_value(library: &mut Library, written: &str) -> io::Result<String> {
+    let number = read(library, written)?;
+    match number.parse() {
+        Ok(number) => Ok((one_number(library, Call::Signed, number)? as i32).to_string()),
+        Err(_) => Ok(number),
     }
 }
 
-fn read_as_value(written: &str) -> String {
-    match read(written).parse() {
-        Ok(number) => rattle::signed(number).to_string(),
-        Err(_) => read(written),
+fn entries_of(library: &mut Library, written: &str) -> io::Result<String> {
+    let (answer, _) = call(library, Call::ReadRecord, &bytes_from(written), 16, 0)?;
+    let entries = answer as u32 as usize;
+    if answer == answer_to_record(Ok(entries)) {
+        return Ok(format!("{entries} entries"));
     }
-}
-
-fn entries_of(written: &str) -> String {
-    let mut rows = [0; 16];
-    match rattle::read_record(&bytes_from(written), &mut rows) {
-        Reply::Answer(Ok(entries)) => format!("{entries} entries"),
-        Reply::Answer(Err(refusal)) => refusal.to_string(),
-        other => format!("{other:?}"),
-    }
+    Ok(answer_in_words(answer))
 }
