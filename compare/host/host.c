@@ -1,0 +1,167 @@
+/* The program that the Rattle library is linked into. It is for x86-64, as the library is, stands on no C library, and
+ * is run by `compare`, under the kit's emulator where the processor is another one.
+ *
+ * It reads batches of requests from standard input and writes a batch of responses for each. A batch is a count of bytes
+ * (four of them) and then these bytes. A request is a head and then its source; a response is the call's answer, a word
+ * that is 1 when the source was changed, and all memory that was lent, with the fences on both sides of it. */
+#include "adzequarry.h"
+
+enum { READ_NUMBER = 1, WRITE_NUMBER, ALTERNATING, SIGNED, READ_RECORD, WRITE_RECORD, WRITE_THEN_READ, READ_THEN_WRITE };
+
+struct head {
+    uint32_t call;
+    uint32_t source; /* elements that are lent to be read: bytes or words, as the call has them */
+    uint32_t lent;   /* elements that are lent to be written */
+    uint32_t number;
+    uint64_t at;
+};
+
+enum { MOST_REQUESTS = 1 << 21, MOST_RESPONSES = 1 << 23, MOST_ELEMENTS = 1 << 15, FENCE = 5 };
+
+static uint8_t requests[MOST_REQUESTS];
+static uint8_t responses[MOST_RESPONSES];
+static uint32_t source[MOST_ELEMENTS], between[MOST_ELEMENTS];
+static uint8_t lent_bytes[MOST_ELEMENTS], byte_filling[MOST_ELEMENTS];
+static uint32_t lent_words[MOST_ELEMENTS], word_filling[MOST_ELEMENTS];
+
+/* Eight bytes anywhere in memory. An emulator takes about as long for one byte as for eight. */
+typedef uint64_t __attribute__((may_alias, aligned(1))) eight;
+
+/* The compiler and the library may call these. */
+void *memcpy(void *to, const void *from, size_t count) {
+    uint8_t *t = to;
+    const uint8_t *f = from;
+    for (; count >= 8; count -= 8, t += 8, f += 8) *(eight *)t = *(const eight *)f;
+    while (count-- > 0) *t++ = *f++;
+    return to;
+}
+
+void *memset(void *to, int byte, size_t count) {
+    uint8_t *t = to;
+    while (count-- > 0) *t++ = (uint8_t)byte;
+    return to;
+}
+
+void *memmove(void *to, const void *from, size_t count) {
+    uint8_t *t = to;
+    const uint8_t *f = from;
+    if ((uintptr_t)t - (uintptr_t)f >= count) {
+        for (size_t i = 0; i < count; i++) t[i] = f[i];
+        return to;
+    }
+    while (count-- > 0) t[count] = f[count];
+    return to;
+}
+
+int memcmp(const void *one, const void *other, size_t count) {
+    const uint8_t *a = one, *b = other;
+    for (; count >= 8 && *(const eight *)a == *(const eight *)b; count -= 8, a += 8, b += 8) continue;
+    for (; count > 0 && *a == *b; count--, a++, b++) continue;
+    return count > 0 ? *a - *b : 0;
+}
+
+int bcmp(const void *one, const void *other, size_t count) { return memcmp(one, other, count); }
+
+static long system_call(long number, long first, void *memory, size_t count) {
+    long answer;
+    __asm__ volatile("syscall" : "=a"(answer) : "a"(number), "D"(first), "S"(memory), "d"(count) : "rcx", "r11", "memory");
+    return answer;
+}
+
+static _Noreturn void end(int status) {
+    for (;;) system_call(60, status, 0, 0);
+}
+
+/* Reads or writes all of it. No more input at the start of a batch is the end of the run. */
+static void transfer(long call, long file, void *memory, size_t count, int may_end) {
+    size_t done = 0;
+    while (done < count) {
+        long now = system_call(call, file, (uint8_t *)memory + done, count - done);
+        if (now == 0 && done == 0 && may_end) end(0);
+        if (now <= 0) end(3);
+        done += (size_t)now;
+    }
+}
+
+static size_t put(size_t at, const void *from, size_t count) {
+    if (count > MOST_RESPONSES - at) end(4);
+    memcpy(responses + at, from, count);
+    return at + count;
+}
+
+static uint64_t written_and_read(const struct head *h) {
+    uint64_t written = adze_write_record(source, h->source, (uint8_t *)between, sizeof between);
+    if (written >> 32) return written;
+    return adze_read_record((uint8_t *)between, written, lent_words + FENCE, h->lent);
+}
+
+static uint64_t read_and_written(const struct head *h) {
+    uint64_t entries = adze_read_record((uint8_t *)source, h->source, between, MOST_ELEMENTS);
+    if (entries >> 32) return entries;
+    return adze_write_record(between, 4 * entries, lent_bytes + FENCE, h->lent);
+}
+
+static uint64_t answer_of(const struct head *h) {
+    switch (h->call) {
+    case READ_NUMBER: return adze_read_number((uint8_t *)source, h->source, h->at);
+    case WRITE_NUMBER: return adze_write_number(lent_bytes + FENCE, h->lent, h->at, h->number);
+    case ALTERNATING: return adze_alternating((int32_t)h->number);
+    case SIGNED: return (uint32_t)adze_signed(h->number);
+    case READ_RECORD: return adze_read_record((uint8_t *)source, h->source, lent_words + FENCE, h->lent);
+    case WRITE_RECORD: return adze_write_record(source, h->source, lent_bytes + FENCE, h->lent);
+    case WRITE_THEN_READ: return written_and_read(h);
+    case READ_THEN_WRITE: return read_and_written(h);
+    default: end(5);
+    }
+}
+
+static size_t source_size(const struct head *h) {
+    int of_words = h->call == WRITE_RECORD || h->call == WRITE_THEN_READ;
+    return h->source * (of_words ? sizeof(uint32_t) : 1);
+}
+
+/* Does one request, whose source stands at `sent`, and puts its response at place `at`. Behind the source stand bytes that
+ * end a number, so that a call that reads too far doesn't find the end of the bytes. */
+static size_t respond(const struct head *h, const uint8_t *sent, size_t at) {
+    int lends_words = h->call == READ_RECORD || h->call == WRITE_THEN_READ;
+    size_t size = source_size(h), count = h->lent + 2 * FENCE;
+    if (size + 64 > sizeof source || count > MOST_ELEMENTS) end(6);
+    memcpy(source, sent, size);
+    memset((uint8_t *)source + size, 1, 64);
+    if (lends_words) memcpy(lent_words, word_filling, count * sizeof(uint32_t));
+    else memcpy(lent_bytes, byte_filling, count);
+    uint64_t answer = answer_of(h);
+    uint32_t source_changed = memcmp(source, sent, size) != 0;
+    at = put(at, &answer, sizeof answer);
+    at = put(at, &source_changed, sizeof source_changed);
+    if (lends_words) return put(at, lent_words, count * sizeof(uint32_t));
+    return put(at, lent_bytes, count);
+}
+
+static void serve_batch(void) {
+    uint32_t length;
+    transfer(0, 0, &length, sizeof length, 1);
+    if (length > MOST_REQUESTS) end(7);
+    transfer(0, 0, requests, length, 0);
+    size_t at = 0, answered = 0;
+    while (at < length) {
+        struct head h;
+        memcpy(&h, requests + at, sizeof h);
+        at += sizeof h;
+        answered = respond(&h, requests + at, answered);
+        at += source_size(&h);
+    }
+    uint32_t count = (uint32_t)answered;
+    transfer(1, 1, &count, sizeof count, 0);
+    transfer(1, 1, responses, answered, 0);
+}
+
+_Noreturn void host_main(void) {
+    for (size_t place = 0; place < MOST_ELEMENTS; place++) {
+        byte_filling[place] = 0x5A ^ (uint8_t)(place * 0x3D);
+        word_filling[place] = 0xA5C30000 + (uint32_t)place;
+    }
+    for (;;) serve_batch();
+}
+
+__asm__(".globl _start\n_start:\n xor %ebp, %ebp\n and $-16, %rsp\n call host_main\n");

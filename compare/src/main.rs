@@ -1,0 +1,138 @@
+//! Compares the Rattle library with the independent program of this folder.
+
+#![forbid(unsafe_code)]
+
+mod check;
+mod numbers;
+mod rattle;
+mod reader;
+mod response;
+mod round_trips;
+mod sheet;
+mod writer;
+
+use check::{Checked, Checker, Trouble};
+use compare::random::Random;
+use compare::samples;
+use std::path::Path;
+use std::process::ExitCode;
+use std::sync::Mutex;
+use std::thread;
+use std::time::Instant;
+
+const USAGE: &str = "usage: compare [all | records | bench-sheet] [--seed NUMBER]
+       compare samples FOLDER          makes the sample records
+       compare check-samples FOLDER    holds the sample records to what would be made";
+
+const USUAL_SEED: u64 = 2048;
+
+fn main() -> ExitCode {
+    let arguments: Vec<String> = std::env::args().skip(1).collect();
+    let words: Vec<&str> = arguments.iter().map(String::as_str).collect();
+    let all_well = match words[..] {
+        ["samples", folder] => make_samples(Path::new(folder)),
+        ["check-samples", folder] => check_samples(Path::new(folder)),
+        [] | ["all"] => all(USUAL_SEED),
+        ["bench-sheet"] => bench_sheet(),
+        ["records"] => records(USUAL_SEED),
+        ["--seed", seed] | ["all", "--seed", seed] => seed.parse().map_or_else(|_| usage(), all),
+        ["records", "--seed", seed] => seed.parse().map_or_else(|_| usage(), records),
+        _ => usage(),
+    };
+    if all_well {
+        ExitCode::SUCCESS
+    } else {
+        ExitCode::FAILURE
+    }
+}
+
+fn usage() -> bool {
+    eprintln!("{USAGE}");
+    false
+}
+
+fn all(seed: u64) -> bool {
+    bench_sheet() && records(seed)
+}
+
+fn bench_sheet() -> bool {
+    match sheet::bench_sheet() {
+        Ok((lines, 0)) => {
+            println!("bench sheet: {lines} lines, all as the paper says");
+            return true;
+        }
+        Ok((_, differing)) => println!("bench sheet: {differing} lines DIFFER from the paper"),
+        Err(error) => println!("bench sheet: FAILED: {error}"),
+    }
+    false
+}
+
+type Family = fn(&mut Checker, &mut Random) -> Checked;
+
+const FAMILIES: [(&str, Family); 5] = [
+    ("numbers", numbers::numbers),
+    ("values", numbers::values),
+    ("reader", reader::reader),
+    ("writer", writer::writer),
+    ("round trips", round_trips::round_trips),
+];
+
+/// Runs a family and says how many inputs it tried and how many seconds it took. Each has its own generator from the same
+/// seed, so one can be changed and the others see what they saw, and its own host, so they can run beside each other.
+fn run(name: &str, family: Family, seed: u64) -> (u64, f64) {
+    let begun = Instant::now();
+    let tried = Checker::new().map_err(Trouble::from).and_then(|mut checker| {
+        family(&mut checker, &mut Random::from_seed(seed))?;
+        checker.settle()?;
+        Ok(checker.tried)
+    });
+    match tried {
+        Ok(tried) => (tried, begun.elapsed().as_secs_f64()),
+        Err(trouble) => end_with(name, trouble, seed),
+    }
+}
+
+/// The first family in trouble ends the program; another that is in trouble too waits here for that end.
+fn end_with(name: &str, trouble: Trouble, seed: u64) -> ! {
+    static FIRST: Mutex<()> = Mutex::new(());
+    let _held_until_the_end = FIRST.lock();
+    println!("{name}: {trouble}\n  seed {seed}");
+    println!("compare: the library and the paper DO NOT AGREE");
+    std::process::exit(1)
+}
+
+fn records(seed: u64) -> bool {
+    println!("compare: seed {seed}");
+    let outcomes = thread::scope(|scope| {
+        let running = FAMILIES.map(|(name, family)| scope.spawn(move || run(name, family, seed)));
+        running.map(|thread| thread.join().expect("a family's thread ends"))
+    });
+    for ((name, _), (tried, seconds)) in FAMILIES.iter().zip(outcomes) {
+        println!("{name}: {tried} tried, {seconds:.1} s");
+    }
+    let total: u64 = outcomes.iter().map(|(tried, _)| tried).sum();
+    println!("compare: {total} inputs, all agree");
+    true
+}
+
+fn make_samples(folder: &Path) -> bool {
+    match samples::write_to(folder) {
+        Ok(files) => println!("samples: {files} files made"),
+        Err(error) => {
+            println!("samples: {error}");
+            return false;
+        }
+    }
+    true
+}
+
+fn check_samples(folder: &Path) -> bool {
+    let faults = samples::faults_of(folder).unwrap_or_else(|error| vec![error.to_string()]);
+    for fault in &faults {
+        println!("samples: {fault}");
+    }
+    if faults.is_empty() {
+        println!("samples: all as they should be");
+    }
+    faults.is_empty()
+}
