@@ -1,0 +1,24 @@
+-- A number takes at most five bytes, so that its answer fits one number.
+use Prim.Native.Nat.{ℕ, _+_, _≤_, _<_}
+use mathlib.Core.Path.{_≡_, sym, _∙_}
+use mathlib.Core.List.{List}
+use native.Mathlib.Omega.{arith}
+use native.Mathlib.Decide.{decLe}
+use lib.ListN.{length, getD}
+use Rattle.number.specs.Number.{numberBytes, numberAt, putAnswer}
+use Rattle.number.specs.Laws.{length-few, put-fits, put-refused}
+use Rattle.number.specs.Trip.{written-read}
+use Rattle.number.specs.declared.Number.the-variants.{Is}
+use Rattle.number.specs.declared.Put.the-variants.{Next, NoRoom}
+
+-- the place after a number is at most five places further
+abbrev pub Near : ℕ → ℕ → Type 0
+Near at next = (at ≤ next) × (next ≤ at + 5)
+
+pub read-near : (s : List ℕ) (at n next : ℕ) → ((i : ℕ) → getD s i 0 < 256) → numberAt s at ≡ Is n next → Near at next
+read-near s at n next h p = let w = written-read s at n next h p in (omega (arith, w .far), omega (arith, w .far, length-few n))
+
+pub put-near : (d : List ℕ) (at n next : ℕ) → putAnswer d at n ≡ Next next → Near at next
+put-near d at n next p = elim (decLe (at + length (numberBytes n)) (length d)) [
+    yes h ↦ (let q = sym (put-fits d at n h) ∙ p in let e : at + length (numberBytes n) ≡ next = cc in (omega arith, omega (arith, length-few n)))
+  | no h ↦ (let q = sym (put-refused d at n (omega (arith, h))) ∙ p in let z : _≡_ {A = ℕ} 0 1 = cc in absurd (omega arith)) ]

@@ -1,0 +1,20 @@
+-- `exports::adze_alternating` meets its contract. Assumes nothing.
+use mathlib.Core.Path.{ap, _∙_}
+use mir.Syntax.{w32}
+use mir.Facts.{toZ-ofZ}
+use Rattle.number.specs.Value.{alternatingOf}
+use borrow.Author.Needs.{needs}
+use Rattle.exports.proofs.adze_alternating.Statement.{statement}
+use Rattle.exports.proofs.adze_alternating.Tie as tie
+use Rattle.exports.proofs.adze_alternating.Reads as reads
+use Rattle.exports.proofs.adze_alternating.Lts as lts
+use Rattle.number.proofs.alternating.Reads as alternating-reads
+
+alternating-requires : tie.Need-alternating-requires
+alternating-requires c κs = search needs
+
+returns : tie.Need-returns
+returns c = c .alternating .ensures ∙ ap alternatingOf (toZ-ofZ {w = w32} (c .before .fits .v))
+
+pub adze-alternating-spec : {M : Type 1} → statement M
+adze-alternating-spec = tie.close (tie.spec alternating-requires returns)

@@ -1,0 +1,47 @@
+// The calls for C and Rust: include/adzequarry.h has their declarations. An enum can't cross to C, so an answer is packed into one number.
+ghost use mathlib.Core.Path.{_≡_};
+ghost use Rattle.number.specs.Number.{numberAt, putAnswer, putBytes};
+ghost use Rattle.number.specs.Value.{alternatingOf, signedOf};
+ghost use Rattle.record.specs.Record.{readOutcome, writeOutcome};
+ghost use Rattle.exports.specs.Packed.{packedNumber, packedPut, packedAnswer};
+use number::Number;
+use number::Put;
+use record::Answer;
+
+// The number at a place, with how many bytes it takes.
+#[no_mangle]
+pub extern "C" fn adze_read_number(bytes: &[u8], at: usize) -> u64
+    ensures { λ r. ⌜ r ≡ packedNumber at (numberAt (now (bytes .entry)) at) ⌝ }
+{
+    match number::read_number(bytes, at) {
+        Number::Is(n, next) => n as u64 + 1099511627776 * ((next - at) as u64),
+        Number::Refused(k) => 4294967296 * (k as u64),
+    }
+}
+
+// Writes a number at a place.
+#[no_mangle]
+pub extern "C" fn adze_write_number(bytes: &mut [u8], at: usize, n: u32) -> u64
+    ensures { λ r. ⌜ (r ≡ packedPut at (putAnswer (now (bytes .entry)) at n)) × (now (bytes .exit) ≡ putBytes (now (bytes .entry)) at n) ⌝ }
+{
+    match number::write_number(bytes, at, n) {
+        Put::Next(next) => 1099511627776 * ((next - at) as u64),
+        Put::NoRoom => 4294967296 * 20,
+    }
+}
+
+// The number that a value is written as.
+#[no_mangle]
+pub extern "C" fn adze_alternating(v: i32) -> u32
+    ensures { λ r. ⌜ r ≡ alternatingOf v ⌝ }
+{
+    number::alternating(v)
+}
+
+// The value that a number stands for.
+#[no_mangle]
+pub extern "C" fn adze_signed(n: u32) -> i32
+    ensures { λ r. ⌜ r ≡ signedOf n ⌝ }
+{
+    number::signed(n)
+}
