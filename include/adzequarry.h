@@ -28,4 +28,8 @@ int32_t adze_signed(uint32_t n);
 uint64_t adze_read_record(const uint8_t *bytes, size_t length, uint32_t *rows, size_t words);
 uint64_t adze_write_record(const uint32_t *rows, size_t words, uint8_t *bytes, size_t length);
 
+/* The judge: 0 is lawful; bits 40 to 47 are one more than the lowest unlawful cell, the rest 0; or refused: bits 32 to 39 the refusal
+ * (21 to 29), bits 0 to 31 the number of its entry. */
+uint64_t adze_verdict(const uint8_t *bytes, size_t length);
+
 #endif
