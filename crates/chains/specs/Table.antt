@@ -1,0 +1,65 @@
+-- The table of writes: chains by hash, and what linking the writes and searching the table give. A link is one more than an entry's number,
+-- and 0 where there is none.
+use Prim.Native.Nat.{ℕ, _+_, _*_, _-_, _/_, _%_, _≤_, _<_}
+use mathlib.Core.Path.{_≡_}
+use mathlib.Core.Bool.{Bool, true, false}
+use mathlib.Core.List.{List}
+use lib.ListN.{length, getD}
+use Rattle.chains.specs.declared.Linked.{Linked}
+use Rattle.chains.specs.declared.Linked.the-variants.{All as allLinked, Again as againAt}
+use Rattle.chains.specs.declared.Write.{Write}
+use Rattle.chains.specs.declared.Write.the-variants.{At, None}
+use Rattle.chains.specs.Chains.{Asks, Again, NoneAgain}
+
+-- the chain of a cell and a value
+unfoldable pub homeOf : ℕ → ℕ → ℕ
+homeOf cell value = (((value + cell * 65537) * 1327217885) / 1048576) % 4096
+
+-- an entry's chain
+abbrev pub homeAt : List ℕ → List ℕ → ℕ → ℕ
+homeAt cells values p = homeOf (getD cells p 0) (getD values p 0)
+
+-- entry p is below n, asks to write, and its chain is h
+pub record Homed (kinds cells values : List ℕ) (n h p : ℕ) : Type 0 where
+  pub below : p < n
+  pub write : getD kinds p 0 ≡ 1
+  pub home : homeAt cells values p ≡ h
+
+-- the link leads to the greatest write below n whose chain is h
+pub record Latest (kinds cells values : List ℕ) (n h link : ℕ) : Type 0 where
+  pub one : 0 < link → Homed kinds cells values n h (link - 1)
+  pub last : (p : ℕ) → Homed kinds cells values n h p → p < link
+
+-- the table holds every write below n: a chain's head leads to its greatest, and a write's next to the greatest of its chain before it
+pub record Chained (kinds cells values : List ℕ) (n : ℕ) (head next : List ℕ) : Type 0 where
+  pub few : n ≤ 2048
+  pub head-long : length head ≡ 4096
+  pub next-long : length next ≡ 2048
+  pub heads : (h : ℕ) → h < 4096 → Latest kinds cells values n h (getD head h 0)
+  pub nexts : (p : ℕ) → p < n → getD kinds p 0 ≡ 1 → Latest kinds cells values p (homeAt cells values p) (getD next p 0)
+
+-- the table before the first write
+pub record Empty (head next : List ℕ) : Type 0 where
+  pub head-long : length head ≡ 4096
+  pub next-long : length next ≡ 2048
+  pub no-heads : (h : ℕ) → getD head h 0 ≡ 0
+
+-- what searching the table gives: a write that asks this, or none does
+pub record Found (kinds cells values : List ℕ) (n cell value : ℕ) (r : Write) : Type 0 where
+  pub at : (w : ℕ) → r ≡ At w → (w < n) × Asks kinds cells values w cell value
+  pub none : r ≡ None → (p : ℕ) → p < n → Asks kinds cells values p cell value → ⊥
+
+-- what linking the writes gives: the whole table and none asks again, or the first that does
+pub record Linking (kinds cells values : List ℕ) (n : ℕ) (head next : List ℕ) (r : Linked) : Type 0 where
+  pub all : r ≡ allLinked → NoneAgain kinds cells values n × Chained kinds cells values n head next
+  pub again : (p : ℕ) → r ≡ againAt p → (p < n) × (Again kinds cells values p × NoneAgain kinds cells values p)
+
+-- a test says whether P holds
+pub record Tells (P : Type 0) (r : Bool) : Type 0 where
+  pub yes : r ≡ true → P
+  pub no : r ≡ false → P → ⊥
+
+-- what entering entry p gives: the table with it, or it asks again
+pub record Entered (kinds cells values : List ℕ) (p : ℕ) (head next : List ℕ) (r : Bool) : Type 0 where
+  pub entered : r ≡ true → Chained kinds cells values (p + 1) head next × (Again kinds cells values p → ⊥)
+  pub again : r ≡ false → Again kinds cells values p
