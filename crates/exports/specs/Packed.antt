@@ -1,5 +1,5 @@
 -- Answers packed into one number, for C: bits 0 to 31 a number, bits 32 to 39 the refusal, 0 for none, bits 40 to 47 a count of bytes.
-use Prim.Native.Nat.{ℕ, _+_, _-_, _*_, _^_}
+use Prim.Native.Nat.{ℕ, _+_, _-_, _*_, _^_, _<_}
 use Rattle.number.specs.declared.Number.{Number}
 use Rattle.number.specs.declared.Number.the-variants.{Is, Refused}
 use Rattle.number.specs.declared.Put.{Put}
@@ -21,3 +21,8 @@ packedPut at NoRoom = 2 ^ 32 * 20
 unfoldable pub packedAnswer : Answer → ℕ
 packedAnswer (All n) = n
 packedAnswer (Unread k n) = 2 ^ 32 * k + n
+
+-- a refused entry's number fits its bits
+abbrev pub Small : Answer → Type 0
+Small (All n) = Unit {0}
+Small (Unread k n) = n < 2 ^ 32

@@ -3,7 +3,7 @@ ghost use mathlib.Core.Path.{_≡_};
 ghost use Rattle.number.specs.Number.{numberAt, putAnswer, putBytes};
 ghost use Rattle.number.specs.Value.{alternatingOf, signedOf};
 ghost use Rattle.record.specs.Record.{readOutcome, writeOutcome};
-ghost use Rattle.exports.specs.Packed.{packedNumber, packedPut, packedAnswer};
+ghost use Rattle.exports.specs.Packed.{packedNumber, packedPut, packedAnswer, Small};
 use number::Number;
 use number::Put;
 use record::Answer;
@@ -44,4 +44,33 @@ pub extern "C" fn adze_signed(n: u32) -> i32
     ensures { λ r. ⌜ r ≡ signedOf n ⌝ }
 {
     number::signed(n)
+}
+
+// A record's answer as one number.
+fn packed(a: Answer) -> u64
+    requires { ⌜ Small a ⌝ }
+    ensures { λ r. ⌜ r ≡ packedAnswer a ⌝ }
+{
+    match a {
+        Answer::All(n) => n as u64,
+        Answer::Refused(k, n) => 4294967296 * (k as u64) + n as u64,
+    }
+}
+
+// Reads a record into lent rows.
+#[no_mangle]
+pub extern "C" fn adze_read_record(bytes: &[u8], rows: &mut [u32]) -> u64
+    ensures { λ r. ⌜ (r ≡ packedAnswer (readOutcome (now (bytes .entry)) (now (rows .entry)) .answer)) × (now (rows .exit) ≡ readOutcome (now (bytes .entry)) (now (rows .entry)) .lent) ⌝ }
+{
+    let a = record::read_record(bytes, rows);
+    packed(a)
+}
+
+// Writes the record of lent rows into lent bytes.
+#[no_mangle]
+pub extern "C" fn adze_write_record(rows: &[u32], bytes: &mut [u8]) -> u64
+    ensures { λ r. ⌜ (r ≡ packedAnswer (writeOutcome (now (rows .entry)) (now (bytes .entry)) .answer)) × (now (bytes .exit) ≡ writeOutcome (now (rows .entry)) (now (bytes .entry)) .lent) ⌝ }
+{
+    let a = record::write_record(rows, bytes);
+    packed(a)
 }

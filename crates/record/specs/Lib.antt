@@ -1,9 +1,18 @@
 -- Definitions. Entry: one entry. Record: entries one after another, the reader and the writer. Legal: a record without a fault.
+-- Below: bytes and words. Answers: what an answer means.
 pub mod Entry
 pub mod Record
 pub mod Legal
--- Laws.
+pub mod Below
+pub mod Answers
+-- Laws. Steps, RowLaws, Wrote and Storing serve the functions' proofs. EntryTrip and Trip: what was written is read, and what is read was
+-- written. Refusals: which there are. Sheet: worked examples. OnlyOne: no other outcome fits a call.
 pub mod Steps
 pub mod RowLaws
 pub mod Wrote
 pub mod Storing
+pub mod EntryTrip
+pub mod Trip
+pub mod Refusals
+pub mod Sheet
+pub mod OnlyOne

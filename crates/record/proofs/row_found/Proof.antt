@@ -16,7 +16,7 @@ returns : tie.Need-returns
 returns c = sym (row-24 _ _ _ _ _ (c .if1 .taken))
 
 returns-2 : tie.Need-returns-2
-returns-2 c = sym (row-25-client _ _ _ _ _ (c .before .if1 .left) (c .if2 .taken))
+returns-2 c = sym (row-25-client _ _ _ _ _ (c .before .if1 .left) (omega arith))
 
 cast-t7 : tie.Need-cast-t7
 cast-t7 c = search needs
@@ -34,7 +34,7 @@ returns-4 : tie.Need-returns-4
 returns-4 c = simp (held (c .signed .result) (c .before .before .before .before .before .args .value) (omega arith) (c .signed .ensures)) (sym (row-told _ _ _ _ _ (c .before .before .before .if2 .left) (c .before .if4 .taken)))
 
 returns-5 : tie.Need-returns-5
-returns-5 c = sym (row-25-cell _ _ _ _ _ (c .before .before .before .before .if1 .left) (c .before .before .before .if2 .left) (omega arith) (c .if5 .taken))
+returns-5 c = sym (row-25-cell _ _ _ _ _ (c .before .before .before .before .if1 .left) (c .before .before .before .if2 .left) (omega arith) (omega arith))
 
 cast-t14 : tie.Need-cast-t14
 cast-t14 c = search needs

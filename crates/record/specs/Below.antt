@@ -1,0 +1,14 @@
+-- What lent numbers are known to be: bytes, or words of 32 bits.
+use Prim.Native.Nat.{ℕ, _^_, _<_}
+use mathlib.Core.List.{List}
+use lib.ListN.{getD}
+
+-- every number is below m
+abbrev pub Below : ℕ → List ℕ → Type 0
+Below m s = (i : ℕ) → getD s i 0 < m
+
+abbrev pub Bytes : List ℕ → Type 0
+Bytes s = Below 256 s
+
+abbrev pub Words : List ℕ → Type 0
+Words s = Below (2 ^ 32) s

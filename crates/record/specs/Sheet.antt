@@ -1,0 +1,87 @@
+-- The bench sheet's record, and the smallest ones that are refused.
+use Prim.Native.Nat.{ℕ}
+use mathlib.Core.List.{List, [], _∷_}
+use mathlib.Core.Path.{_≡_, refl}
+use lib.ListN.{length}
+use lib.IntN.{pos}
+use Rattle.number.specs.Number.{groupsOf, taken, lastOf, valueOf, numberOf, numberAt}
+use Rattle.number.specs.Value.{alternatingOf, signedOf}
+use Rattle.record.specs.declared.Entry.{Entry}
+use Rattle.record.specs.declared.Entry.the-variants.{ReadAsked, WriteAsked, Told, Done}
+use Rattle.record.specs.declared.Found.the-variants.{At, Fault}
+use Rattle.record.specs.Entry.{entryBytes, upTo, andThen, fieldsAt, entryAt, rowOf, entryOf, rowFound, rowAt}
+use Rattle.record.specs.Record.{faultAfter, standingAfter, entries, fault, before, enter, heldFrom, recordOf, rowsHeld, allOf, bytesOf, rowsOf}
+
+-- client 0 writes 5 to cell 2, client 1 reads 5
+abbrev pub sheetBytes : List ℕ
+sheetBytes = 0x01 ∷ 0x00 ∷ 0x02 ∷ 0x0A ∷ 0x03 ∷ 0x00 ∷ 0x00 ∷ 0x01 ∷ 0x02 ∷ 0x02 ∷ 0x01 ∷ 0x0A ∷ []
+
+abbrev pub sheetEntries : List Entry
+sheetEntries =
+    WriteAsked (record { 0 = 0 }) (record { 0 = 2 }) (pos 5)
+    ∷ Done (record { 0 = 0 })
+    ∷ ReadAsked (record { 0 = 1 }) (record { 0 = 2 })
+    ∷ Told (record { 0 = 1 }) (pos 5)
+    ∷ []
+
+-- 12 bytes, 4 entries
+pub sheet-length : length sheetBytes ≡ 12
+sheet-length = refl
+
+pub sheet-reads : recordOf sheetBytes ≡ entries sheetEntries
+unfolding recordOf heldFrom enter before faultAfter standingAfter entryAt fieldsAt upTo andThen numberAt numberOf taken lastOf valueOf signedOf
+sheet-reads = refl
+
+pub sheet-writes : bytesOf sheetEntries ≡ sheetBytes
+unfolding allOf entryBytes groupsOf alternatingOf
+sheet-writes = refl
+
+pub sheet-rows : rowsOf sheetEntries ≡ 1 ∷ 0 ∷ 2 ∷ 10 ∷ 3 ∷ 0 ∷ 0 ∷ 0 ∷ 0 ∷ 1 ∷ 2 ∷ 0 ∷ 2 ∷ 1 ∷ 0 ∷ 10 ∷ []
+unfolding allOf rowOf alternatingOf
+sheet-rows = refl
+
+-- no bytes is the empty record
+pub none-reads : recordOf [] ≡ entries []
+unfolding recordOf heldFrom
+none-reads = refl
+
+pub none-writes : bytesOf [] ≡ []
+unfolding allOf
+none-writes = refl
+
+-- there is no client 8, and no cell 16
+pub client-8 : entryAt (0x00 ∷ 0x08 ∷ 0x00 ∷ []) 0 ≡ Fault 25
+unfolding entryAt fieldsAt upTo andThen numberAt numberOf taken lastOf valueOf
+client-8 = refl
+
+pub cell-16 : entryAt (0x00 ∷ 0x00 ∷ 0x10 ∷ []) 0 ≡ Fault 25
+unfolding entryAt fieldsAt upTo andThen numberAt numberOf taken lastOf valueOf
+cell-16 = refl
+
+pub row-client-8 : rowsHeld (0 ∷ 8 ∷ 0 ∷ 0 ∷ []) ≡ fault 25 0
+unfolding rowsHeld heldFrom enter rowAt rowFound
+row-client-8 = refl
+
+-- a kind and a client are the whole of a done entry
+pub done-short : entryAt (0x03 ∷ 0x00 ∷ 0x07 ∷ []) 0 ≡ At (Done (record { 0 = 0 })) 2
+unfolding entryAt fieldsAt upTo andThen numberAt numberOf taken lastOf valueOf
+done-short = refl
+
+-- an entry that stands before a fault is no record: kind 9 after the sheet's first entry
+pub second-faulty : recordOf (0x01 ∷ 0x00 ∷ 0x02 ∷ 0x0A ∷ 0x09 ∷ []) ≡ fault 24 1
+unfolding recordOf heldFrom enter before faultAfter standingAfter entryAt fieldsAt upTo andThen numberAt numberOf taken lastOf valueOf signedOf
+second-faulty = refl
+
+-- asked twice, and told without having asked
+pub asked-twice : recordOf (0x00 ∷ 0x00 ∷ 0x02 ∷ 0x00 ∷ 0x00 ∷ 0x02 ∷ []) ≡ fault 26 1
+unfolding recordOf heldFrom enter before faultAfter standingAfter entryAt fieldsAt upTo andThen numberAt numberOf taken lastOf valueOf signedOf
+asked-twice = refl
+
+pub told-unasked : recordOf (0x02 ∷ 0x00 ∷ 0x0A ∷ []) ≡ fault 27 0
+unfolding recordOf heldFrom enter before faultAfter standingAfter entryAt fieldsAt upTo andThen numberAt numberOf taken lastOf valueOf signedOf
+told-unasked = refl
+
+-- one row; its field that a read asked hasn't got is no part of it
+pub one-row : rowsHeld (0 ∷ 0 ∷ 2 ∷ 77 ∷ []) ≡ entries (ReadAsked (record { 0 = 0 }) (record { 0 = 2 }) ∷ [])
+unfolding rowsHeld heldFrom enter before faultAfter standingAfter rowAt rowFound entryOf
+one-row = refl
