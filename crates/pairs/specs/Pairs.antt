@@ -4,10 +4,13 @@ use mathlib.Core.Path.{_≡_}
 use mathlib.Core.Logic.{_⊎_}
 use mathlib.Core.List.{List}
 use mathlib.Core.Bool.{Bool, true, false, cond}
-use lib.ListN.{getD}
+use lib.ListN.{length, getD}
 use lib.Dec.{T}
 use Rattle.number.specs.Value.{alternatingOf}
-use Rattle.law.specs.Operation.{Op}
+use Rattle.record.specs.declared.Entry.{Entry}
+use Rattle.record.specs.declared.Answer.{Answer}
+use Rattle.record.specs.Record.{entries, recordOf, surveyOf}
+use Rattle.law.specs.Operation.{Op, operations}
 use Rattle.law.specs.Order.{In}
 
 -- entry p starts x: 0 a read, 1 a write with its value
@@ -32,3 +35,8 @@ pub record Paired (ops : List Op) (n : ℕ) (kinds cells values starts : List �
   -- every entry starts or ends one
   pub each : (p : ℕ) → p < n
       → ((x : Op) × (In x ops × (x .number ≡ p))) ⊎ ((x : Op) × (In x ops × (T (x .over) × (x .stop ≡ p))))
+
+-- what the first pass has to do: it answers as the reader's survey does, and the arrays hold the operations of a record without a fault
+pub record PairsUp (s : List ℕ) (r : Answer) (kinds cells values starts : List ℕ) : Type 0 where
+  pub answer : r ≡ surveyOf (recordOf s)
+  pub paired : (es : List Entry) → recordOf s ≡ entries es → Paired (operations es) (length es) kinds cells values starts
