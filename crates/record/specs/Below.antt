@@ -7,8 +7,10 @@ use lib.ListN.{getD}
 abbrev pub Below : ℕ → List ℕ → Type 0
 Below m s = (i : ℕ) → getD s i 0 < m
 
+-- every number is a byte
 abbrev pub Bytes : List ℕ → Type 0
 Bytes s = Below 256 s
 
+-- every number is a word of 32 bits
 abbrev pub Words : List ℕ → Type 0
 Words s = Below (2 ^ 32) s

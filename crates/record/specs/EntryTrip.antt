@@ -49,33 +49,41 @@ within-limit limit refusal n next h = simp (le-ltb limit n h)
 checked : {s : List ℕ} {at n : ℕ} {more : List ℕ} (limit refusal : ℕ) (w : Step s at n more) → n ≤ limit → upTo limit refusal (numberAt s at) ≡ Is n (w .place)
 checked {s} {at} {n} limit refusal w h = ap (upTo limit refusal) (w .gives) ∙ within-limit limit refusal n (w .place) h
 
+-- kind and client at place at, and then others: both are read, and the entry's fields are those that stand after them
+record Head (s : List ℕ) (at kind client : ℕ) (more : List ℕ) : Type 0 where
+  place : ℕ
+  is : place ≡ at + (length (numberBytes kind) + length (numberBytes client))
+  gives : entryAt s at ≡ fieldsAt s place kind client
+  rest : drop place s ≡ more
+
+head : (s : List ℕ) (at kind client : ℕ) (more : List ℕ) → kind ≤ 3 → client ≤ 7 → drop at s ≡ numberBytes kind ++ (numberBytes client ++ more)
+    → Head s at kind client more
+unfolding entryAt andThen
+head s at kind client more hk hc e =
+    let a = step s at kind (numberBytes client ++ more) (omega arith) e in
+    let b = step s (a .place) client more (omega arith) (a .rest) in
+    record { place = b .place; is = omega (arith, a .is, b .is); gives = simp (checked 3 24 a hk, checked 7 25 b hc); rest = b .rest }
+
 -- an entry's bytes at place at are read as the entry, whatever follows
 pub reads-entry : (e : Entry) (s : List ℕ) (at : ℕ) (more : List ℕ) → InRange e → drop at s ≡ entryBytes e ++ more → entryAt s at ≡ At e (at + length (entryBytes e))
-unfolding entryAt entryBytes fieldsAt andThen
+unfolding entryBytes fieldsAt andThen
 reads-entry (ReadAsked client cell) s at more h e =
-    let a = step s at 0 (numberBytes (client .0) ++ (numberBytes (cell .0) ++ more)) (omega arith) (e ∙ simp append-assoc) in
-    let b = step s (a .place) (client .0) (numberBytes (cell .0) ++ more) (omega arith) (a .rest) in
-    let c = step s (b .place) (cell .0) more (omega arith) (b .rest) in
-    simp (checked 3 24 a (omega arith), checked 7 25 b (h .0), checked 15 25 c (h .1))
-    (ap (At (ReadAsked client cell)) (simp length-append (omega (arith, a .is, b .is, c .is))))
+    let a = head s at 0 (client .0) (numberBytes (cell .0) ++ more) (omega arith) (h .0) (e ∙ simp append-assoc) in
+    let b = step s (a .place) (cell .0) more (omega arith) (a .rest) in
+    a .gives ∙ simp (checked 15 25 b (h .1)) (ap (At (ReadAsked client cell)) (simp length-append (omega (arith, a .is, b .is))))
 reads-entry (WriteAsked client cell v) s at more h e =
-    let a = step s at 1 (numberBytes (client .0) ++ (numberBytes (cell .0) ++ (numberBytes (alternatingOf v) ++ more))) (omega arith) (e ∙ simp append-assoc) in
-    let b = step s (a .place) (client .0) (numberBytes (cell .0) ++ (numberBytes (alternatingOf v) ++ more)) (omega arith) (a .rest) in
-    let c = step s (b .place) (cell .0) (numberBytes (alternatingOf v) ++ more) (omega arith) (b .rest) in
-    let d = step s (c .place) (alternatingOf v) more (alternating-below v (h .2)) (c .rest) in
-    simp (checked 3 24 a (omega arith), checked 7 25 b (h .0), checked 15 25 c (h .1), d .gives, signed-alternating)
-    (ap (At (WriteAsked client cell v)) (simp length-append (omega (arith, a .is, b .is, c .is, d .is))))
+    let a = head s at 1 (client .0) (numberBytes (cell .0) ++ (numberBytes (alternatingOf v) ++ more)) (omega arith) (h .0) (e ∙ simp append-assoc) in
+    let b = step s (a .place) (cell .0) (numberBytes (alternatingOf v) ++ more) (omega arith) (a .rest) in
+    let c = step s (b .place) (alternatingOf v) more (alternating-below v (h .2)) (b .rest) in
+    a .gives
+    ∙ simp (checked 15 25 b (h .1), c .gives, signed-alternating) (ap (At (WriteAsked client cell v)) (simp length-append (omega (arith, a .is, b .is, c .is))))
 reads-entry (Told client v) s at more h e =
-    let a = step s at 2 (numberBytes (client .0) ++ (numberBytes (alternatingOf v) ++ more)) (omega arith) (e ∙ simp append-assoc) in
-    let b = step s (a .place) (client .0) (numberBytes (alternatingOf v) ++ more) (omega arith) (a .rest) in
-    let c = step s (b .place) (alternatingOf v) more (alternating-below v (h .1)) (b .rest) in
-    simp (checked 3 24 a (omega arith), checked 7 25 b (h .0), c .gives, signed-alternating)
-    (ap (At (Told client v)) (simp length-append (omega (arith, a .is, b .is, c .is))))
+    let a = head s at 2 (client .0) (numberBytes (alternatingOf v) ++ more) (omega arith) (h .0) (e ∙ simp append-assoc) in
+    let b = step s (a .place) (alternatingOf v) more (alternating-below v (h .1)) (a .rest) in
+    a .gives ∙ simp (b .gives, signed-alternating) (ap (At (Told client v)) (simp length-append (omega (arith, a .is, b .is))))
 reads-entry (Done client) s at more h e =
-    let a = step s at 3 (numberBytes (client .0) ++ more) (omega arith) (e ∙ simp append-assoc) in
-    let b = step s (a .place) (client .0) more (omega arith) (a .rest) in
-    simp (checked 3 24 a (omega arith), checked 7 25 b h)
-    (ap (At (Done client)) (simp length-append (omega (arith, a .is, b .is))))
+    let a = head s at 3 (client .0) more (omega arith) h (e ∙ simp append-assoc) in
+    a .gives ∙ ap (At (Done client)) (simp length-append (omega (arith, a .is)))
 
 -- ---- what is read was written
 
@@ -189,6 +197,7 @@ entry-few (WriteAsked client cell v) h =
 entry-few (Told client v) h = simp length-append (omega (arith, one-byte 2 (omega arith), one-byte (client .0) (omega arith), length-few (alternatingOf v)))
 entry-few (Done client) h = simp length-append (omega (arith, one-byte 3 (omega arith), one-byte (client .0) (omega arith)))
 
+-- what holds of each number of two lists holds of both together
 pub below-none : (m : ℕ) → 0 < m → Below m []
 below-none m h zero = h
 below-none m h (suc i) = h
@@ -242,6 +251,7 @@ reads-row (Told client v) ws at more h e =
     ∙ ap (λ x. At (Told client x) (at + 4)) (signed-alternating v)
 reads-row (Done client) ws at more h e = row-there ws at _ _ _ _ more e ∙ row-done 3 (client .0) 0 0 (at + 4) h refl
 
+-- a row that gives an entry is within the limits
 module _ (kind client cell value next : ℕ) (e : Entry) (next′ : ℕ) (p : rowFound kind client cell value next ≡ At e next′) where
   row-client : kind ≤ 3 → client ≤ 7
   row-client h = go (ltb 7 client) refl

@@ -100,11 +100,11 @@ standing-faults st (Done client) h = unless (eqb (openBy st client) 2) 27 (omega
 -- ---- a record
 
 -- a fault from low to 28; 28 names the entry after the last that may follow, every other one before it
-record Named (low k n limit : ℕ) : Type 0 where
-  least : low ≤ k
-  most : k ≤ 28
-  last : k ≡ 28 → n ≡ limit
-  early : k < 28 → n < limit
+pub record Named (low k n limit : ℕ) : Type 0 where
+  pub least : low ≤ k
+  pub most : k ≤ 28
+  pub last : k ≡ 28 → n ≡ limit
+  pub early : k < 28 → n < limit
 
 no-entries : {A : Type 0} {k n : ℕ} {es : List Entry} → entries es ≡ fault k n → A
 no-entries p = let z : _≡_ {A = ℕ} 0 1 = cc in absurd (omega arith)
@@ -152,6 +152,15 @@ module _ (more : ℕ → Bool) (found : ℕ → Found) (low : ℕ) (early : low 
           at-entry left n j k m (b .0) (omega (arith, b .1)) (sym (unread more found left at n j st h g) ∙ p)
       go true h (At e next) g ih = checked (eqb (faultAfter st e) 0) e next h g refl ih
 
+-- bytes hold a fault from 21 to 28, rows one from 24 to 28
+pub record-faults : (s : List ℕ) (k n : ℕ) → recordOf s ≡ fault k n → Named 21 k n 2048
+unfolding recordOf
+record-faults s k n p = named (λ at. ltb at (length s)) (entryAt s) 21 (omega arith) (entry-faults s) entryLimit 0 0 fresh k n p
+
+pub rows-faults : (ws : List ℕ) (k n : ℕ) → rowsHeld ws ≡ fault k n → Named 24 k n 2048
+unfolding rowsHeld
+rows-faults ws k n p = named (λ at. leb (at + 4) (length ws)) (rowAt ws) 24 (omega arith) (row-faults ws) entryLimit 0 0 fresh k n p
+
 -- a refusal with 20, or from low to 28: 20 names entry 0, 28 names entry 2,048, and every other one before that
 pub record Refusal (low k n : ℕ) : Type 0 where
   pub which : (k ≡ 20) ⊎ (low ≤ k)
@@ -160,7 +169,7 @@ pub record Refusal (low k n : ℕ) : Type 0 where
   pub last : k ≡ 28 → n ≡ 2048
   pub early : k < 28 → n < 2048
 
-of-fault : {low k n : ℕ} → 20 < low → Named low k n entryLimit → Refusal low k n
+of-fault : {low k n : ℕ} → 20 < low → Named low k n 2048 → Refusal low k n
 of-fault h w = record {
   which = inr (w .least);
   most = w .most;
@@ -185,24 +194,24 @@ of-room low out count d k n p = go (stores out count d)
 
 -- reading refuses with 20 to 28
 pub read-refusals : (s d : List ℕ) (k n : ℕ) → readOutcome s d .answer ≡ Refused k n → Refusal 21 k n
-unfolding recordOf readInto
+unfolding readInto
 read-refusals s d k n p = go (recordOf s) refl p
   where
     go : (h : Held) → recordOf s ≡ h → readInto h d .answer ≡ Refused k n → Refusal 21 k n
     go (fault j m) e q =
         let a : j ≡ k = cc in
         let b : m ≡ n = cc in
-        of-fault (omega arith) (named (λ at. ltb at (length s)) (entryAt s) 21 (omega arith) (entry-faults s) entryLimit 0 0 fresh k n (e ∙ cc))
+        of-fault (omega arith) (record-faults s k n (e ∙ cc))
     go (entries es) e q = of-room 21 (rowsOf es) (length es) d k n q
 
 -- writing with 20 and 24 to 28
 pub write-refusals : (ws d : List ℕ) (k n : ℕ) → writeOutcome ws d .answer ≡ Refused k n → Refusal 24 k n
-unfolding rowsHeld writeInto
+unfolding writeInto
 write-refusals ws d k n p = go (rowsHeld ws) refl p
   where
     go : (h : Held) → rowsHeld ws ≡ h → writeInto h d .answer ≡ Refused k n → Refusal 24 k n
     go (fault j m) e q =
         let a : j ≡ k = cc in
         let b : m ≡ n = cc in
-        of-fault (omega arith) (named (λ at. leb (at + 4) (length ws)) (rowAt ws) 24 (omega arith) (row-faults ws) entryLimit 0 0 fresh k n (e ∙ cc))
+        of-fault (omega arith) (rows-faults ws k n (e ∙ cc))
     go (entries es) e q = of-room 24 (bytesOf es) (length (bytesOf es)) d k n q

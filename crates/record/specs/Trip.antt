@@ -46,6 +46,7 @@ pub reading-legal : (s : List ℕ) (es : List Entry) → Bytes s → recordOf s 
 unfolding recordOf
 reading-legal s es h p = held-legal (λ at. ltb at (length s)) (entryAt s) (λ at e next q. written-entry s at e next h q .range) es p
 
+-- and so do rows
 pub rows-legal : (ws : List ℕ) (es : List Entry) → Words ws → rowsHeld ws ≡ entries es → Legal es
 unfolding rowsHeld
 rows-legal ws es h p = held-legal (λ at. leb (at + 4) (length ws)) (rowAt ws) (λ at e next q. row-range ws at e next h q) es p
@@ -153,6 +154,7 @@ record-bytes es l = all-below 256 entryBytes (omega arith) entry-bytes es fresh 
 pub rows-words : (es : List Entry) → Legal es → Words (rowsOf es)
 rows-words es l = all-below (2 ^ 32) rowOf (omega arith) row-words es fresh (l .follows)
 
+-- and there are four of them to an entry
 pub rows-length : (es : List Entry) → length (rowsOf es) ≡ 4 * length es
 unfolding allOf
 rows-length [] = refl
@@ -250,25 +252,32 @@ write-took (entries es) d m p =
       beyond = rw (← l) (stored-beyond (bytesOf es) (length (bytesOf es)) d);
     }
 
+-- a record without a fault is read from its bytes and written from its rows, wherever there is room
+pub reads-legal : (es : List Entry) (d : List ℕ) → Legal es → readOutcome (bytesOf es) d ≡ stored (rowsOf es) (length es) d
+unfolding readInto
+reads-legal es d l = ap (λ (h : Held). readInto h d) (read-of-write es l)
+
+pub writes-legal : (es : List Entry) (d : List ℕ) → Legal es → writeOutcome (rowsOf es) d ≡ stored (bytesOf es) (length (bytesOf es)) d
+unfolding writeInto
+writes-legal es d l = ap (λ (h : Held). writeInto h d) (rows-of-rows es l)
+
 -- the rows that a read leaves are written back as the bytes that were read, or refused with 20
 pub write-after-read : (s d : List ℕ) (n : ℕ) (b : List ℕ) → Bytes s → readOutcome s d .answer ≡ All n → writeOutcome (take (4 * n) (readOutcome s d .lent)) b ≡ stored s (length s) b
-unfolding writeInto
 write-after-read s d n b h p =
     let w = read-took (recordOf s) d n p in
     ap (λ (l : List ℕ). writeOutcome l b) (w .front)
-    ∙ ap (λ (x : Held). writeInto x b) (rows-of-rows (w .all) (reading-legal s (w .all) h (w .held)))
+    ∙ writes-legal (w .all) b (reading-legal s (w .all) h (w .held))
     ∙ ap (λ (l : List ℕ). stored l (length l) b) (write-of-read s (w .all) h (w .held))
 
 -- the bytes that a write leaves are read back as the record that was written, or refused with 20: a field that a kind hasn't got is then 0
 pub read-after-write : (ws b : List ℕ) (es : List Entry) (m : ℕ) (d : List ℕ) → Words ws → rowsHeld ws ≡ entries es → writeOutcome ws b .answer ≡ All m
     → readOutcome (take m (writeOutcome ws b .lent)) d ≡ stored (rowsOf es) (length es) d
-unfolding readInto
 read-after-write ws b es m d h q p =
     let w = write-took (rowsHeld ws) b m p in
     let r : entries (w .all) ≡ entries es = sym (w .held) ∙ q in
     let e : w .all ≡ es = cc in
     ap (λ (l : List ℕ). readOutcome l d) (w .front ∙ ap bytesOf e)
-    ∙ ap (λ (x : Held). readInto x d) (read-of-write es (rows-legal ws es h q))
+    ∙ reads-legal es d (rows-legal ws es h q)
 
 -- rows in which those fields are 0 come back just as they were
 pub rows-return : (ws b : List ℕ) (es : List Entry) (m : ℕ) (d : List ℕ) → Words ws → rowsHeld ws ≡ entries es → ws ≡ rowsOf es → writeOutcome ws b .answer ≡ All m
