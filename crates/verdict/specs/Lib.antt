@@ -1,2 +1,19 @@
--- Definitions.
+-- Definitions. Verdict: what the judge says of a record's bytes. Answers: its words. Arrays: what the judge's arrays hold.
 pub mod Verdict
+pub mod Answers
+pub mod Arrays
+-- Laws. OnlyOne: one verdict is right, and says exactly what it means. Refusals: which there are. Sheet: refusal 29 on the paper's bytes.
+pub mod OnlyOne
+pub mod Refusals
+pub mod Sheet
+-- Legal: what bytes hold has no fault. Passing, Placing, Sweeping: how the passes go on. Bridge, Shown: from arrays to operations and entries.
+-- CellLaw: a cell without a mark is lawful, and one with a mark isn't. Repeats: refusal 29. Judging: the verdict.
+pub mod Legal
+pub mod Passing
+pub mod Placing
+pub mod Sweeping
+pub mod Bridge
+pub mod Shown
+pub mod CellLaw
+pub mod Repeats
+pub mod Judging

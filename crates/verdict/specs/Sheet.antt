@@ -1,0 +1,39 @@
+-- Refusal 29 on the paper's bytes: client 0 writes 5 to cell 2, and client 1 reads 5 there.
+use Prim.Native.Nat.{ℕ}
+use mathlib.Core.Path.{_≡_, refl}
+use mathlib.Core.List.{List, [], _∷_, _++_}
+use lib.IntN.{pos}
+use Rattle.number.specs.Number.{taken, lastOf, valueOf, numberOf, numberAt}
+use Rattle.number.specs.Value.{alternatingOf, signedOf}
+use Rattle.record.specs.declared.Entry.{Entry}
+use Rattle.record.specs.declared.Entry.the-variants.{ReadAsked, WriteAsked, Told, Done}
+use Rattle.record.specs.Entry.{upTo, andThen, fieldsAt, entryAt}
+use Rattle.record.specs.Record.{entries, fault, faultAfter, standingAfter, before, enter, heldFrom, recordOf}
+use Rattle.verdict.specs.Verdict.{asksFor, askedAmong, repeats, distinctFrom, distinct, takenFor}
+
+-- the paper's twelve bytes, and their four entries
+abbrev twelve : List ℕ
+twelve = 0x01 ∷ 0x00 ∷ 0x02 ∷ 0x0A ∷ 0x03 ∷ 0x00 ∷ 0x00 ∷ 0x01 ∷ 0x02 ∷ 0x02 ∷ 0x01 ∷ 0x0A ∷ []
+
+abbrev four : List Entry
+four =
+    WriteAsked (record { 0 = 0 }) (record { 0 = 2 }) (pos 5) ∷ Done (record { 0 = 0 }) ∷ ReadAsked (record { 0 = 1 }) (record { 0 = 2 }) ∷ Told (record { 0 = 1 }) (pos 5) ∷ []
+
+pub taken-four : takenFor twelve ≡ entries four
+unfolding takenFor distinct distinctFrom repeats askedAmong asksFor recordOf heldFrom enter before faultAfter standingAfter entryAt fieldsAt andThen upTo numberAt numberOf valueOf lastOf taken alternatingOf signedOf
+taken-four = refl
+
+-- the first entry again: 5 is written to cell 2 twice
+pub twice : takenFor (twelve ++ (0x01 ∷ 0x00 ∷ 0x02 ∷ 0x0A ∷ [])) ≡ fault 29 4
+unfolding takenFor distinct distinctFrom repeats askedAmong asksFor recordOf heldFrom enter before faultAfter standingAfter entryAt fieldsAt andThen upTo numberAt numberOf valueOf lastOf taken alternatingOf signedOf
+twice = refl
+
+-- zero is written
+pub zero-written : takenFor (0x01 ∷ 0x00 ∷ 0x02 ∷ 0x00 ∷ []) ≡ fault 29 0
+unfolding takenFor distinct distinctFrom repeats askedAmong asksFor recordOf heldFrom enter before faultAfter standingAfter entryAt fieldsAt andThen upTo numberAt numberOf valueOf lastOf taken alternatingOf signedOf
+zero-written = refl
+
+-- a fault of the bytes comes first: they end in the last entry
+pub torn : takenFor (0x01 ∷ 0x00 ∷ 0x02 ∷ 0x00 ∷ 0x03 ∷ []) ≡ fault 21 1
+unfolding takenFor distinct distinctFrom repeats askedAmong asksFor recordOf heldFrom enter before faultAfter standingAfter entryAt fieldsAt andThen upTo numberAt numberOf valueOf lastOf taken alternatingOf signedOf
+torn = refl
