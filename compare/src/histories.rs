@@ -203,7 +203,7 @@ fn distinct_value(place: usize) -> i32 {
     match place % 3 {
         0 => number,
         1 => -number,
-        _ => number * 0x0009_E377,
+        _ => number * 0x0004_E377,
     }
 }
 
