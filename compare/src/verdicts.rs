@@ -144,8 +144,36 @@ fn full_records(checker: &mut Checker, random: &mut Random) -> Checked {
         let bytes = bytes_of(&entries);
         try_bytes(checker, &[&bytes[..], &[random.byte()]].concat())?;
         try_bytes(checker, &bytes[..random.below(bytes.len())])?;
+        try_entries(checker, &late_read_of_an_early_value(random))?;
+        try_entries(checker, &reads_of_two_open_writes(random))?;
     }
     Ok(())
+}
+
+/// Writes of one client to one cell, and a last read of any of their values, of zero or of none: what can't stand together
+/// lies far apart, and only the very last value is lawful.
+fn late_read_of_an_early_value(random: &mut Random) -> Vec<Entry> {
+    let (client, cell) = (random.below(CLIENTS) as u8, random.below(CELLS) as u8);
+    let writes = MOST_ENTRIES as i32 / 2 - 1;
+    let write = |value| [Entry::WriteAsked { client, cell, value }, Entry::Done { client }];
+    let mut entries: Vec<Entry> = (1..=writes).flat_map(write).collect();
+    let value = if random.one_in(2) { random.below(100) as i32 } else { writes + 1 - random.below(100) as i32 };
+    entries.extend([Entry::ReadAsked { client, cell }, Entry::Told { client, value }]);
+    entries
+}
+
+/// Two writes stay open with a thousand finished ones between their starts, and reads go back and forth between the two.
+fn reads_of_two_open_writes(random: &mut Random) -> Vec<Entry> {
+    let cell = random.below(CELLS) as u8;
+    let asked = |client, value| Entry::WriteAsked { client, cell, value };
+    let mut entries = vec![asked(0, -1)];
+    entries.extend((1..=1_000).flat_map(|value| [asked(1, value), Entry::Done { client: 1 }]));
+    entries.push(asked(2, -2));
+    for _ in 0..3 {
+        let value = if random.one_in(2) { -1 } else { -2 };
+        entries.extend([Entry::ReadAsked { client: 3, cell }, Entry::Told { client: 3, value }]);
+    }
+    entries
 }
 
 /// Inputs of more bytes than any record has, with a fault early, late or after 2,048 entries.
