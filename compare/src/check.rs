@@ -3,6 +3,8 @@
 
 use crate::rattle::{Call, Library, Request, Source};
 use crate::response::*;
+use crate::verdicts::Tally;
+use compare::law::Verdict;
 use compare::paper::{number, record, rows};
 use std::fmt::{self, Display, UpperHex};
 use std::io;
@@ -41,6 +43,8 @@ pub type Checked = Result<(), Trouble>;
 pub struct Checker {
     library: Library,
     pub tried: u64,
+    /// The verdicts among them.
+    pub tally: Tally,
     requests: Vec<u8>,
     expected: Vec<u8>,
     /// Where each request and each expected response starts.
@@ -50,7 +54,8 @@ pub struct Checker {
 impl Checker {
     pub fn new() -> io::Result<Checker> {
         let library = Library::start()?;
-        Ok(Checker { library, tried: 0, requests: Vec::new(), expected: Vec::new(), starts: Vec::new() })
+        let (requests, expected, starts) = (Vec::new(), Vec::new(), Vec::new());
+        Ok(Checker { library, tried: 0, tally: Tally::default(), requests, expected, starts })
     }
 
     pub fn read_number(&mut self, bytes: &[u8], at: usize) -> Checked {
@@ -113,6 +118,12 @@ impl Checker {
         let (call, lent) = (Call::ReadThenWrite, bytes.len());
         let request = Request { call, source: Source::Bytes(bytes), lent, number: 0, at: 0 };
         self.queue(request, |expected| put_with_bytes(expected, answer_to_record(outcome), &memory))
+    }
+
+    /// The verdict on bytes, as the independent judges have found it. Nothing is lent to be written.
+    pub fn verdict(&mut self, bytes: &[u8], verdict: Verdict) -> Checked {
+        let request = Request { call: Call::Verdict, source: Source::Bytes(bytes), lent: 0, number: 0, at: 0 };
+        self.queue(request, |expected| put_with_bytes(expected, answer_to_verdict(verdict), &fresh_bytes(0)))
     }
 
     fn queue(&mut self, request: Request, put_expected: impl FnOnce(&mut Vec<u8>)) -> Checked {
@@ -196,6 +207,7 @@ fn shown(request: &[u8]) -> String {
         "adze_write_record",
         "a record written and then read",
         "bytes read and then written",
+        "adze_verdict",
     ];
     let name = names[word_at(request, 0) as usize - 1];
     let (source, lent, number, at) =
@@ -209,8 +221,8 @@ fn differences(request: &[u8], expected: &[u8], given: &[u8]) -> String {
     if given.len() != expected.len() {
         return format!("  library: {} bytes of response instead of {}", given.len(), expected.len());
     }
-    let paper = answer_in_words(long_at(expected, 0));
-    let library = answer_in_words(long_at(given, 0));
+    let in_words = if word_at(request, 0) == Call::Verdict as u32 { verdict_in_words } else { answer_in_words };
+    let (paper, library) = (in_words(long_at(expected, 0)), in_words(long_at(given, 0)));
     let mut lines = format!("  paper:   {paper}\n  library: {library}");
     if word_at(given, 8) != 0 {
         lines += "\n  the call wrote to what it was lent to read";

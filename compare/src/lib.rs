@@ -3,6 +3,8 @@
 
 #![forbid(unsafe_code)]
 
+pub mod histories;
+pub mod law;
 pub mod making;
 pub mod paper;
 pub mod random;

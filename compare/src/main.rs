@@ -9,6 +9,7 @@ mod reader;
 mod response;
 mod round_trips;
 mod sheet;
+mod verdicts;
 mod writer;
 
 use check::{Checked, Checker, Trouble};
@@ -20,7 +21,7 @@ use std::sync::Mutex;
 use std::thread;
 use std::time::Instant;
 
-const USAGE: &str = "usage: compare [all | records | bench-sheet] [--seed NUMBER]
+const USAGE: &str = "usage: compare [all | records | verdicts | bench-sheet] [--seed NUMBER]
        compare samples FOLDER          makes the sample records
        compare check-samples FOLDER    holds the sample records to what would be made";
 
@@ -34,9 +35,11 @@ fn main() -> ExitCode {
         ["check-samples", folder] => check_samples(Path::new(folder)),
         [] | ["all"] => all(USUAL_SEED),
         ["bench-sheet"] => bench_sheet(),
-        ["records"] => records(USUAL_SEED),
+        ["records"] => run_all(&RECORDS, USUAL_SEED),
+        ["verdicts"] => run_all(&[VERDICTS], USUAL_SEED),
         ["--seed", seed] | ["all", "--seed", seed] => seed.parse().map_or_else(|_| usage(), all),
-        ["records", "--seed", seed] => seed.parse().map_or_else(|_| usage(), records),
+        ["records", "--seed", seed] => seed.parse().map_or_else(|_| usage(), |seed| run_all(&RECORDS, seed)),
+        ["verdicts", "--seed", seed] => seed.parse().map_or_else(|_| usage(), |seed| run_all(&[VERDICTS], seed)),
         _ => usage(),
     };
     if all_well {
@@ -52,7 +55,7 @@ fn usage() -> bool {
 }
 
 fn all(seed: u64) -> bool {
-    bench_sheet() && records(seed)
+    bench_sheet() && run_all(&[&RECORDS[..], &[VERDICTS]].concat(), seed)
 }
 
 fn bench_sheet() -> bool {
@@ -67,9 +70,12 @@ fn bench_sheet() -> bool {
     false
 }
 
-type Family = fn(&mut Checker, &mut Random) -> Checked;
+/// A family of inputs and its name.
+type Family = (&'static str, fn(&mut Checker, &mut Random) -> Checked);
 
-const FAMILIES: [(&str, Family); 5] = [
+const VERDICTS: Family = ("verdicts", verdicts::verdicts);
+
+const RECORDS: [Family; 5] = [
     ("numbers", numbers::numbers),
     ("values", numbers::values),
     ("reader", reader::reader),
@@ -77,17 +83,20 @@ const FAMILIES: [(&str, Family); 5] = [
     ("round trips", round_trips::round_trips),
 ];
 
-/// Runs a family and says how many inputs it tried and how many seconds it took. Each has its own generator from the same
-/// seed, so one can be changed and the others see what they saw, and its own host, so they can run beside each other.
-fn run(name: &str, family: Family, seed: u64) -> (u64, f64) {
+/// Runs a family and says how many inputs it tried, in a line. Each has its own generator from the same seed, so one can be
+/// changed and the others see what they saw, and its own host, so they can run beside each other.
+fn run((name, try_all): Family, seed: u64) -> (u64, String) {
     let begun = Instant::now();
-    let tried = Checker::new().map_err(Trouble::from).and_then(|mut checker| {
-        family(&mut checker, &mut Random::from_seed(seed))?;
+    let done = Checker::new().map_err(Trouble::from).and_then(|mut checker| {
+        try_all(&mut checker, &mut Random::from_seed(seed))?;
         checker.settle()?;
-        Ok(checker.tried)
+        Ok(checker)
     });
-    match tried {
-        Ok(tried) => (tried, begun.elapsed().as_secs_f64()),
+    match done {
+        Ok(Checker { tried, tally, .. }) => {
+            let verdicts = if name == VERDICTS.0 { format!(" ({tally})") } else { String::new() };
+            (tried, format!("{name}: {tried} tried{verdicts}, {:.1} s", begun.elapsed().as_secs_f64()))
+        }
         Err(trouble) => end_with(name, trouble, seed),
     }
 }
@@ -101,14 +110,14 @@ fn end_with(name: &str, trouble: Trouble, seed: u64) -> ! {
     std::process::exit(1)
 }
 
-fn records(seed: u64) -> bool {
+fn run_all(families: &[Family], seed: u64) -> bool {
     println!("compare: seed {seed}");
-    let outcomes = thread::scope(|scope| {
-        let running = FAMILIES.map(|(name, family)| scope.spawn(move || run(name, family, seed)));
-        running.map(|thread| thread.join().expect("a family's thread ends"))
+    let outcomes: Vec<(u64, String)> = thread::scope(|scope| {
+        let running: Vec<_> = families.iter().map(|family| scope.spawn(move || run(*family, seed))).collect();
+        running.into_iter().map(|thread| thread.join().expect("a family's thread ends")).collect()
     });
-    for ((name, _), (tried, seconds)) in FAMILIES.iter().zip(outcomes) {
-        println!("{name}: {tried} tried, {seconds:.1} s");
+    for (_, line) in &outcomes {
+        println!("{line}");
     }
     let total: u64 = outcomes.iter().map(|(tried, _)| tried).sum();
     println!("compare: {total} inputs, all agree");

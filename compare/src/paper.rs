@@ -6,7 +6,7 @@ pub mod number;
 pub mod record;
 pub mod rows;
 
-/// The paper's refusals 20 to 28, under names.
+/// The paper's refusals 20 to 29, under names.
 pub mod refusal {
     pub const DESTINATION_TOO_SHORT: u8 = 20;
     pub const BYTES_END_FIRST: u8 = 21;
@@ -17,6 +17,7 @@ pub mod refusal {
     pub const ASKED_WHILE_OPEN: u8 = 26;
     pub const ENDED_WITHOUT_ITS_OPERATION: u8 = 27;
     pub const MORE_THAN_2048_ENTRIES: u8 = 28;
+    pub const VALUE_WRITTEN_AGAIN: u8 = 29;
 }
 
 /// A refusal and the number, from 0, of the entry that it names.

@@ -19,6 +19,7 @@ pub enum Call {
     WriteRecord,
     WriteThenRead,
     ReadThenWrite,
+    Verdict,
 }
 
 /// What is lent to a call to be read.

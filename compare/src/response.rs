@@ -1,6 +1,7 @@
 //! What the host is to respond if the library does what the paper says: made from the independent program's outcome, and
 //! compared byte for byte. Answers are put together as include/adzequarry.h says.
 
+use compare::law::Verdict;
 use compare::paper::number::Number;
 use compare::paper::Refusal;
 
@@ -53,6 +54,14 @@ pub fn answer_to_record(outcome: Result<usize, Refusal>) -> u64 {
     }
 }
 
+pub fn answer_to_verdict(verdict: Verdict) -> u64 {
+    match verdict {
+        Verdict::Lawful => 0,
+        Verdict::Unlawful { cell } => (u64::from(cell) + 1) << 40,
+        Verdict::Refused(refusal) => answer_to_record(Err(refusal)),
+    }
+}
+
 /// Puts a response at the end of `responses`: the answer, a source that stays as it was, and the memory.
 pub fn put_with_bytes(responses: &mut Vec<u8>, answer: u64, memory: &[u8]) {
     responses.extend(answer.to_le_bytes());
@@ -80,6 +89,17 @@ pub fn answer_in_words(answer: u64) -> String {
     format!("{meaning} ({answer:016X})")
 }
 
+/// A verdict's answer in words: the line that the judge would write.
+pub fn verdict_in_words(answer: u64) -> String {
+    let (entry, number, cell) = (answer as u32, (answer >> 32) as u8, (answer >> 40).wrapping_sub(1) as u8);
+    let refused = Verdict::Refused(Refusal { number, entry });
+    let verdicts = [Verdict::Lawful, Verdict::Unlawful { cell }, refused];
+    match verdicts.iter().find(|verdict| answer_to_verdict(**verdict) == answer) {
+        Some(verdict) => format!("{verdict} ({answer:016X})"),
+        None => format!("no answer that the header has ({answer:016X})"),
+    }
+}
+
 #[cfg(test)]
 mod tests {
     use super::*;
@@ -92,6 +112,9 @@ mod tests {
         assert_eq!(answer_to_number_written(Err(20)), 0x0000_0014_0000_0000);
         assert_eq!(answer_to_record(Ok(2048)), 2048);
         assert_eq!(answer_to_record(Err(Refusal { number: 28, entry: 2048 })), 0x0000_001C_0000_0800);
+        assert_eq!(answer_to_verdict(Verdict::Lawful), 0);
+        assert_eq!(answer_to_verdict(Verdict::Unlawful { cell: 15 }), 0x0000_1000_0000_0000);
+        assert_eq!(answer_to_verdict(Verdict::Refused(Refusal { number: 29, entry: 4 })), 0x0000_001D_0000_0004);
     }
 
     #[test]
@@ -107,5 +130,9 @@ mod tests {
     fn answers_in_words() {
         assert_eq!(answer_in_words(0x1A_0000_0004), "refused 26 at entry 4 (0000001A00000004)");
         assert_eq!(answer_in_words(4), "done, 4 (0000000000000004)");
+        assert_eq!(verdict_in_words(0), "lawful (0000000000000000)");
+        assert_eq!(verdict_in_words(0x300_0000_0000), "unlawful cell 2 (0000030000000000)");
+        assert_eq!(verdict_in_words(0x1D_0000_0004), "refused 29 at entry 4 (0000001D00000004)");
+        assert_eq!(verdict_in_words(0x301_0000_0000), "no answer that the header has (0000030100000000)");
     }
 }

@@ -14,6 +14,7 @@ pub struct Sample {
 }
 
 const README: &str = "README.md";
+const VERDICTS: &str = "verdicts.txt";
 
 /// The paper's record: client 0 writes 5 to cell 2, client 1 reads 5.
 const SHEET_RECORD: [u8; 12] = [1, 0, 2, 0x0A, 3, 0, 0, 1, 2, 2, 1, 0x0A];
@@ -184,8 +185,9 @@ fn full_record() -> Vec<Entry> {
 fn readme(samples: &[Sample]) -> String {
     let mut text = String::from(
         "# Sample records\n\n\
-         Each file is the bytes of one record and nothing else. `compare samples` makes the files and this page, and\n\
-         `compare check-samples` holds them to what it would make.\n\n\
+         Each file is the bytes of one record and nothing else. `verdicts.txt` has the last column for programs to read.\n\
+         `compare samples` makes the files, that list and this page, and `compare check-samples` holds them to what it would\n\
+         make.\n\n\
          | File | Bytes | What it is | What the judge writes |\n|---|---|---|---|\n",
     );
     for Sample { file, what, right, bytes } in samples {
@@ -194,12 +196,17 @@ fn readme(samples: &[Sample]) -> String {
     text
 }
 
+/// A line for each sample: its file, and the line that the judge writes for it.
+fn verdicts(samples: &[Sample]) -> String {
+    samples.iter().map(|Sample { file, right, .. }| format!("{file}: {right}\n")).collect()
+}
+
 /// Every file of the folder: its name and all its bytes.
 fn files() -> Vec<(&'static str, Vec<u8>)> {
     let samples = all();
-    let page = readme(&samples).into_bytes();
+    let (page, verdicts) = (readme(&samples).into_bytes(), verdicts(&samples).into_bytes());
     let mut files: Vec<_> = samples.into_iter().map(|sample| (sample.file, sample.bytes)).collect();
-    files.push((README, page));
+    files.extend([(README, page), (VERDICTS, verdicts)]);
     files
 }
 

@@ -1,10 +1,11 @@
-//! The lines of the paper's bench sheet on numbers, values and records, run through the Rattle library and held to the
-//! paper's words.
+//! The lines of the paper's bench sheet on numbers, values, records and what is lawful, run through the Rattle library and
+//! held to the paper's words.
 
 use crate::check::hex;
 use crate::rattle::{Call, Library, Request, Source};
 use crate::response::{
-    answer_in_words, answer_to_number_read, answer_to_number_written, answer_to_record, FENCE, MEMORY_AT,
+    answer_in_words, answer_to_number_read, answer_to_number_written, answer_to_record, verdict_in_words, FENCE,
+    MEMORY_AT,
 };
 use compare::paper::number::Number;
 use std::io;
@@ -21,6 +22,17 @@ const REFUSED: [(&str, u8); 3] = [("80 00", 22), ("80", 21), ("FF FF FF FF 10", 
 /// "No bytes" and "12 bytes, 4 entries", and the same with last byte 00: how many entries they have.
 const RECORDS: [(&str, usize); 3] =
     [("", 0), ("01 00 02 0A 03 00 00 01 02 02 01 0A", 4), ("01 00 02 0A 03 00 00 01 02 02 01 00", 4)];
+
+/// The lines on what is lawful. Where the paper gives no bytes, client 0 writes 5 to cell 2 and client 1 reads.
+const VERDICTS: [(&str, &str, &str); 7] = [
+    ("no bytes", "", "lawful"),
+    ("the record of 12 bytes", "01 00 02 0A 03 00 00 01 02 02 01 0A", "lawful"),
+    ("the same, last byte 00", "01 00 02 0A 03 00 00 01 02 02 01 00", "unlawful cell 2"),
+    ("reads 5, then 0", "01 00 02 0A 00 01 02 02 01 0A 00 01 02 02 01 00", "unlawful cell 2"),
+    ("reads 0, then 5", "01 00 02 0A 00 01 02 02 01 00 00 01 02 02 01 0A", "lawful"),
+    ("reads 5 before it is asked", "00 01 02 02 01 0A 01 00 02 0A 03 00", "unlawful cell 2"),
+    ("unread, unfinished write", "01 00 02 0A", "lawful"),
+];
 
 struct Line {
     title: String,
@@ -58,6 +70,9 @@ fn lines(library: &mut Library) -> io::Result<Vec<Line>> {
     for (bytes, entries) in RECORDS {
         let title = format!("record of {} bytes", bytes_from(bytes).len());
         add(title, format!("{entries} entries"), entries_of(library, bytes)?);
+    }
+    for (title, bytes, verdict) in VERDICTS {
+        add(title.to_string(), verdict.to_string(), verdict_on(library, bytes)?);
     }
     Ok(lines)
 }
@@ -113,6 +128,13 @@ fn read_as_value(library: &mut Library, written: &str) -> io::Result<String> {
         Ok(number) => Ok((one_number(library, Call::Signed, number)? as i32).to_string()),
         Err(_) => Ok(number),
     }
+}
+
+/// The verdict's words, without the answer's bits that follow them.
+fn verdict_on(library: &mut Library, written: &str) -> io::Result<String> {
+    let (answer, _) = call(library, Call::Verdict, &bytes_from(written), 0, 0)?;
+    let words = verdict_in_words(answer);
+    Ok(words.split(" (").next().unwrap_or(&words).to_string())
 }
 
 fn entries_of(library: &mut Library, written: &str) -> io::Result<String> {

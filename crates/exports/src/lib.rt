@@ -3,10 +3,11 @@ ghost use mathlib.Core.Path.{_≡_};
 ghost use Rattle.number.specs.Number.{numberAt, putAnswer, putBytes};
 ghost use Rattle.number.specs.Value.{alternatingOf, signedOf};
 ghost use Rattle.record.specs.Record.{readOutcome, writeOutcome};
-ghost use Rattle.exports.specs.Packed.{packedNumber, packedPut, packedAnswer, Small};
+ghost use Rattle.exports.specs.Packed.{packedNumber, packedPut, packedAnswer, Small, packedVerdict, Brief, Judged};
 use number::Number;
 use number::Put;
 use record::Answer;
+use verdict::Verdict;
 
 // The number at a place, with how many bytes it takes.
 #[no_mangle]
@@ -73,4 +74,25 @@ pub extern "C" fn adze_write_record(rows: &[u32], bytes: &mut [u8]) -> u64
 {
     let a = record::write_record(rows, bytes);
     packed(a)
+}
+
+// A verdict as one number.
+fn packed_verdict(v: Verdict) -> u64
+    requires { ⌜ Brief v ⌝ }
+    ensures { λ r. ⌜ r ≡ packedVerdict v ⌝ }
+{
+    match v {
+        Verdict::Lawful => 0,
+        Verdict::Unlawful(cell) => 1099511627776 * (cell.0 as u64 + 1),
+        Verdict::Refused(k, n) => 4294967296 * (k as u64) + n as u64,
+    }
+}
+
+// The judge's verdict on a record's bytes.
+#[no_mangle]
+pub extern "C" fn adze_verdict(bytes: &[u8]) -> u64
+    ensures { λ r. ⌜ Judged (now (bytes .entry)) r ⌝ }
+{
+    let v = verdict::verdict(bytes);
+    packed_verdict(v)
 }

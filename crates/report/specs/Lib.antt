@@ -1,0 +1,3 @@
+-- Definitions, and what holds of them.
+pub mod Line
+pub mod Sheet
