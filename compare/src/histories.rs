@@ -235,6 +235,17 @@ fn stale_read(random: &mut Random, entries: &mut [Entry], place: usize) {
     }
 }
 
+/// The last write asked up to `place` takes a value that was asked before, for its cell or for another, or zero: mostly 29.
+pub fn write_again(random: &mut Random, entries: &mut [Entry], place: usize) {
+    let is_write = |entry: &Entry| matches!(entry, Entry::WriteAsked { .. });
+    let Some(last) = entries[..place].iter().rposition(is_write) else { return };
+    let asked = values_asked(&entries[..last]);
+    if let Entry::WriteAsked { value, .. } = &mut entries[last] {
+        let which = random.below(asked.len() + 1);
+        *value = asked.get(which).copied().unwrap_or(0);
+    }
+}
+
 fn values_asked(entries: &[Entry]) -> Vec<i32> {
     let value = |entry: &Entry| match entry {
         Entry::WriteAsked { value, .. } => Some(*value),

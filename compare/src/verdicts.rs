@@ -2,7 +2,7 @@
 //! it too, and the two must say the same.
 
 use crate::check::{Checked, Checker, Trouble};
-use compare::histories::{every_record, fault, register_run, small_record, Run, Shape};
+use compare::histories::{every_record, fault, register_run, small_record, write_again, Run, Shape};
 use compare::law::{by_rule, by_search, judged_operations, Verdict};
 use compare::making::{any_bytes, exchanges_for_byte, record};
 use compare::paper::record::{bytes_of, Entry, CELLS, CLIENTS, MOST_ENTRIES};
@@ -94,6 +94,9 @@ fn runs(checker: &mut Checker, random: &mut Random) -> Checked {
             fault(random, &mut entries);
             try_entries(checker, &entries)?;
         }
+        let place = entries.len();
+        write_again(random, &mut entries, place);
+        try_entries(checker, &entries)?;
     }
     for _ in 0..2_000 {
         let length = 50 + random.below(400);
@@ -144,6 +147,9 @@ fn full_records(checker: &mut Checker, random: &mut Random) -> Checked {
         let bytes = bytes_of(&entries);
         try_bytes(checker, &[&bytes[..], &[random.byte()]].concat())?;
         try_bytes(checker, &bytes[..random.below(bytes.len())])?;
+        let place = if random.one_in(2) { entries.len() } else { random.below(entries.len()) };
+        write_again(random, &mut entries, place);
+        try_entries(checker, &entries)?;
         try_entries(checker, &late_read_of_an_early_value(random))?;
         try_entries(checker, &reads_of_two_open_writes(random))?;
     }

@@ -4,6 +4,7 @@ mod shapes;
 
 use compare::law::{by_rule, Verdict};
 use compare::paper::Refusal;
+use shapes::Shape;
 use std::hint::black_box;
 use std::process::ExitCode;
 use std::time::Instant;
@@ -25,9 +26,10 @@ fn rattle_verdict(bytes: &[u8]) -> Verdict {
 
 type Judge = fn(&[u8]) -> Verdict;
 
-/// A round takes about this long for each judge, and the quickest of so many rounds counts.
-const ROUND_SECONDS: f64 = 0.03;
-const ROUNDS: usize = 9;
+/// A round takes about this long for each judge, and the quickest of so many rounds counts: rounds so short that some of
+/// them have the processor to themselves even where others use the machine.
+const ROUND_SECONDS: f64 = 0.002;
+const ROUNDS: usize = 100;
 
 fn seconds_of(judge: Judge, bytes: &[u8], times: u32) -> f64 {
     let begun = Instant::now();
@@ -57,25 +59,49 @@ fn times_of(bytes: &[u8]) -> (f64, f64) {
     (least[0], least[1])
 }
 
+/// The times of several records together.
+#[derive(Default)]
+struct Sum {
+    rattle: f64,
+    rust: f64,
+}
+
+impl Sum {
+    fn add(&mut self, rattle: f64, rust: f64) {
+        self.rattle += rattle;
+        self.rust += rust;
+    }
+
+    fn print(&self, title: &str) {
+        print_row(title, "", "", "", self.rattle, self.rust);
+    }
+}
+
+fn print_row(title: &str, entries: &str, bytes: &str, verdict: &str, rattle: f64, rust: f64) {
+    let (rattle_us, rust_us, ratio) = (rattle * 1e6, rust * 1e6, rattle / rust);
+    println!("{title:34} {entries:>7} {bytes:>6}  {verdict:24} {rattle_us:>6.1} us {rust_us:>6.1} us {ratio:>6.2}");
+}
+
 fn main() -> ExitCode {
     println!(
-        "{:34} {:>7} {:>7}  {:22} {:>9} {:>9} {:>6}",
+        "{:34} {:>7} {:>6}  {:24} {:>9} {:>9} {:>6}",
         "record", "entries", "bytes", "verdict", "Rattle", "Rust", "ratio"
     );
-    let (mut all_rattle, mut all_rust) = (0.0, 0.0);
-    for shape in shapes::all() {
-        let (verdict, other) = (rattle_verdict(&shape.bytes), by_rule::verdict(&shape.bytes));
+    let (mut usual, mut all) = (Sum::default(), Sum::default());
+    for Shape { name, entries, bytes } in shapes::all() {
+        let (verdict, other) = (rattle_verdict(&bytes), by_rule::verdict(&bytes));
         if verdict != other {
-            println!("{}: the two judges DO NOT AGREE: Rattle {verdict}, Rust {other}", shape.name);
+            println!("{name}: the two judges DO NOT AGREE: Rattle {verdict}, Rust {other}");
             return ExitCode::FAILURE;
         }
-        let (rattle, rust) = times_of(&shape.bytes);
-        let (entries, bytes) = (shape.entries, shape.bytes.len());
-        print!("{:34} {entries:>7} {bytes:>7}  {:22}", shape.name, verdict.to_string());
-        println!(" {:>6.1} us {:>6.1} us {:>6.2}", rattle * 1e6, rust * 1e6, rattle / rust);
-        (all_rattle, all_rust) = (all_rattle + rattle, all_rust + rust);
+        let (rattle, rust) = times_of(&bytes);
+        print_row(name, &entries.to_string(), &bytes.len().to_string(), &verdict.to_string(), rattle, rust);
+        all.add(rattle, rust);
+        if !name.starts_with(shapes::WORST) {
+            usual.add(rattle, rust);
+        }
     }
-    let ratio = all_rattle / all_rust;
-    println!("{:73} {:>6.1} us {:>6.1} us {ratio:>6.2}", "all together", all_rattle * 1e6, all_rust * 1e6);
+    usual.print("all but worst hashing");
+    all.print("all");
     ExitCode::SUCCESS
 }

@@ -15,6 +15,9 @@ fn shape(name: &'static str, entries: Vec<Entry>) -> Shape {
     Shape { name, entries: entries.len(), bytes: bytes_of(&entries) }
 }
 
+/// What the names of records begin with whose values are chosen against the Rattle table.
+pub const WORST: &str = "worst hashing";
+
 const OPERATIONS: usize = MOST_ENTRIES / 2;
 
 pub fn all() -> Vec<Shape> {
@@ -53,7 +56,7 @@ fn one_after_the_other() -> Vec<Shape> {
     let value = |turn: usize| turn as i32 + 1;
     let wide = |turn: usize| (turn as i32 + 1) * 1_299_709;
     let written_then_read = |turn: usize, cell: u8| {
-        if turn % 2 == 0 {
+        if turn.is_multiple_of(2) {
             Act::Write(cell, value(turn))
         } else {
             Act::Read(cell, value(turn - 1))
