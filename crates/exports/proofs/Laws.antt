@@ -1,7 +1,8 @@
 -- A number takes at most five bytes, so that its answer fits one number.
-use Prim.Native.Nat.{ℕ, _+_, _^_, _≤_, _<_}
-use mathlib.Core.Path.{_≡_, sym, _∙_}
-use mathlib.Core.List.{List}
+use Prim.Native.Nat.{ℕ, suc, _+_, _^_, _≤_, _<_}
+use mathlib.Core.Path.{_≡_, refl, sym, _∙_}
+use mathlib.Core.Bool.{Bool, true, false, cond}
+use mathlib.Core.List.{List, [], _∷_}
 use native.Mathlib.Omega.{arith}
 use native.Mathlib.Decide.{decLe}
 use lib.ListN.{length, getD}
@@ -10,11 +11,17 @@ use Rattle.number.specs.Laws.{length-few, put-fits, put-refused}
 use Rattle.number.specs.Trip.{written-read}
 use Rattle.number.specs.declared.Number.the-variants.{Is}
 use Rattle.number.specs.declared.Put.the-variants.{Next, NoRoom}
-use Rattle.record.specs.Record.{readOutcome, writeOutcome}
-use Rattle.record.specs.Refusals.{Refusal, read-refusals, write-refusals}
+use Rattle.record.specs.Record.{Held, entries, fault, recordOf, readOutcome, writeOutcome}
+use Rattle.record.specs.Below.{Bytes}
+use Rattle.record.specs.Trip.{reading-legal}
+use Rattle.record.specs.Refusals.{Named, record-faults, Refusal, read-refusals, write-refusals}
+use Rattle.record.specs.declared.Entry.{Entry}
+use Rattle.verdict.specs.Verdict.{repeats, distinctFrom, distinct, takenFor, Judges}
+use Rattle.verdict.specs.declared.Verdict.{Verdict}
+use Rattle.verdict.specs.declared.Verdict.the-variants.{Lawful as saysLawful, Unlawful as saysUnlawful, Refused as saysRefused}
 use Rattle.record.specs.declared.Answer.{Answer}
 use Rattle.record.specs.declared.Answer.the-variants.{All, Refused as Unread}
-use Rattle.exports.specs.Packed.{Small}
+use Rattle.exports.specs.Packed.{Small, Brief}
 
 -- the place after a number is at most five places further
 abbrev pub Near : ℕ → ℕ → Type 0
@@ -41,3 +48,30 @@ read-small s d (Unread k n) e = small (read-refusals s d k n (sym e))
 pub write-small : (ws d : List ℕ) (a : Answer) → a ≡ writeOutcome ws d .answer → Small a
 write-small ws d (All n) e = tt
 write-small ws d (Unread k n) e = small (write-refusals ws d k n (sym e))
+
+-- an entry that 29 names is one of the record's
+again-within : (earlier : List Entry) (m : ℕ) (es all : List Entry) (k n : ℕ) → distinctFrom earlier m es (entries all) ≡ fault k n → n < m + length es
+unfolding distinctFrom
+again-within earlier m [] all k n p = let z : _≡_ {A = ℕ} 0 1 = cc in absurd (omega arith)
+again-within earlier m (e ∷ es) all k n p = go (repeats earlier e) p (again-within (e ∷ earlier) (m + 1) es all k n)
+  where
+    go : (t : Bool) → cond t (fault 29 m) (distinctFrom (e ∷ earlier) (m + 1) es (entries all)) ≡ fault k n
+        → (distinctFrom (e ∷ earlier) (m + 1) es (entries all) ≡ fault k n → n < m + 1 + length es) → n < m + suc (length es)
+    go true q f = let i : m ≡ n = cc in omega arith
+    go false q f = let h = f q in omega arith
+
+verdict-named : (s : List ℕ) → Bytes s → (h : Held) → recordOf s ≡ h → (k n : ℕ) → distinct h ≡ fault k n → n < 2 ^ 32
+unfolding distinct
+verdict-named s b (entries es) e k n p = let l = again-within [] 0 es es k n p in let f = reading-legal s es b e .few in omega arith
+verdict-named s b (fault j m) e k n p = let i : fault j m ≡ fault k n = p in named (record-faults s k n (e ∙ i))
+  where
+    named : Named 21 k n 2048 → n < 2 ^ 32
+    named w = elim (decLe k 27) [
+        yes h ↦ (let l = w .early (omega arith) in omega arith)
+      | no h ↦ (let l = w .last (omega (arith, h, w .most)) in omega arith) ]
+
+pub verdict-brief : (s : List ℕ) → Bytes s → (v : Verdict) → Judges (takenFor s) v → Brief v
+unfolding takenFor
+verdict-brief s b saysLawful j = tt
+verdict-brief s b (saysUnlawful c) j = tt
+verdict-brief s b (saysRefused k n) j = verdict-named s b (recordOf s) refl k n j

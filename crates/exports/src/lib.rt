@@ -93,6 +93,6 @@ fn packed_verdict(v: Verdict) -> u64
 pub extern "C" fn adze_verdict(bytes: &[u8]) -> u64
     ensures { λ r. ⌜ Judged (now (bytes .entry)) r ⌝ }
 {
-    let v = verdict::verdict(bytes);
+    let v = verdict::judge(bytes);
     packed_verdict(v)
 }

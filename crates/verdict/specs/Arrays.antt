@@ -32,15 +32,12 @@ valueAt a p = getD (a .values) p 0
 abbrev pub startAt : Arrays → ℕ → ℕ
 startAt a p = getD (a .starts) p 0
 
--- what the judge leans on: n entries at most 2,048, cells below 16, starts that start themselves, ends after their starts, and each end of a
--- read has a start of its own
+-- what the judge leans on: n entries at most 2,048, cells below 16, no start after its end, and each end of a read has a start of its own
 pub record Fit (a : Arrays) (n : ℕ) : Type 0 where
   pub few : n ≤ 2048
   pub cell : (p : ℕ) → p < n → cellAt a p < 16
-  pub own : (p : ℕ) → p < n → kindAt a p ≤ 1 → startAt a p ≡ p
   pub back : (p : ℕ) → p < n → startAt a p ≤ p
   pub read : (p : ℕ) → p < n → kindAt a p ≡ 2 → kindAt a (startAt a p) ≡ 0
-  pub write : (p : ℕ) → p < n → kindAt a p ≡ 3 → kindAt a (startAt a p) ≡ 1
   pub one : (p q : ℕ) → p < n → q < n → kindAt a p ≡ 2 → kindAt a q ≡ 2 → startAt a p ≡ startAt a q → p ≡ q
 
 -- no entry asks again what an earlier one asked

@@ -147,12 +147,6 @@ module _ (a : Arrays) (n : ℕ) (ops : List Op) (h : Holds a n ops) where
       (λ s. omega (arith, start-stop (s .0) (s .1 .0) (s .1 .1 .0), ap (startAt a) (s .1 .1 .1), s .1 .1 .1, start-number (s .0) (s .1 .0), start-before (s .0) (s .1 .0) (s .1 .1 .0)))
       (h .paired .each p l)
 
-  start-own : (p : ℕ) → p < n → kindAt a p ≤ 1 → startAt a p ≡ p
-  start-own p l k = ⊎-elim
-      (λ s. sym (ap (startAt a) (s .1 .1)) ∙ (h .paired .started (s .0) (s .1 .0) .1 .start ∙ s .1 .1))
-      (λ s. let x = s .0 in absurd (let j = kind-end (x .write) (kindAt a (x .stop)) (kind-stop x (s .1 .0) (s .1 .1 .0)) .1 .1 in omega (arith, j, k, ap (kindAt a) (s .1 .1 .1))))
-      (h .paired .each p l)
-
   -- the kind of an end's start
   start-of : (b : Bool) (p : ℕ) → ((x : Op) × EndedBy ops b p x) → kindAt a (startAt a p) ≡ cond b 1 0
   start-of b p (x, (m, w, t, e)) =
@@ -163,10 +157,8 @@ module _ (a : Arrays) (n : ℕ) (ops : List Op) (h : Holds a n ops) where
       record {
         few = h .few;
         cell = cell-any;
-        own = start-own;
         back = start-any;
         read = λ p l k. start-of false p (entry-read p l k);
-        write = λ p l k. start-of true p (entry-done p l k);
         one = λ p q l k i j e. once p q e (entry-read p l i) (entry-read q k j);
       }
     where
