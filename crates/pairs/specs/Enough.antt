@@ -20,7 +20,7 @@ use Rattle.record.specs.declared.Found.the-variants.{At, Fault}
 use Rattle.record.specs.declared.Standing.{Standing}
 use Rattle.record.specs.Entry.{upTo, andThen, fieldsAt, entryAt}
 use Rattle.record.specs.Record.{fresh, faultAfter, standingAfter, Held, entries, fault, before, enter, heldFrom, recordOf}
-use Rattle.pairs.specs.Range.{and-then-inv, up-to-inv}
+use Rattle.record.specs.EntryTrip.{went, passed}
 
 -- ---- a number
 
@@ -103,7 +103,7 @@ module _ (s : List ℕ) (at : ℕ) where
 
   -- a number that is at most a small limit takes one byte
   limited-one : (limit refusal n next : ℕ) → limit < 128 → upTo limit refusal (numberAt s at) ≡ Is n next → next ≡ at + 1
-  limited-one limit refusal n next l p = let w = up-to-inv limit refusal n next (numberAt s at) p in number-one n next (omega (arith, w .0)) (w .1)
+  limited-one limit refusal n next l p = let w = passed limit refusal n next (numberAt s at) p in number-one n next (omega (arith, w .1)) (w .0)
 
 -- ---- an entry
 
@@ -170,9 +170,9 @@ module _ (s : List ℕ) where
           → last ≤ at + 6
       write cell next h true q = let d = same-place q in omega arith
       write cell next h false q =
-          let w = and-then-inv (numberAt s next) _ e last q in
-          let d = same-place (w .3) in
-          omega (arith, number-far s next (w .0) (w .1) (w .2))
+          let w = went (numberAt s next) _ e last q in
+          let d = same-place (w .on) in
+          omega (arith, number-far s next (w .n) (w .m) (w .is))
 
       go : (a b d : Bool) → cond a (At (Done (record { 0 = client })) at)
           (cond b (andThen (numberAt s at) (λ v next. At (Told (record { 0 = client }) (signedOf v)) next))
@@ -182,22 +182,22 @@ module _ (s : List ℕ) where
           → last ≤ at + 6
       go true b d q = let i = same-place q in omega arith
       go false true d q =
-          let w = and-then-inv (numberAt s at) _ e last q in
-          let i = same-place (w .3) in
-          omega (arith, number-far s at (w .0) (w .1) (w .2))
+          let w = went (numberAt s at) _ e last q in
+          let i = same-place (w .on) in
+          omega (arith, number-far s at (w .n) (w .m) (w .is))
       go false false d q =
-          let w = and-then-inv (upTo 15 25 (numberAt s at)) _ e last q in
-          write (w .0) (w .1) (limited-one s at 15 25 (w .0) (w .1) (omega arith) (w .2)) d (w .3)
+          let w = went (upTo 15 25 (numberAt s at)) _ e last q in
+          write (w .n) (w .m) (limited-one s at 15 25 (w .n) (w .m) (omega arith) (w .is)) d (w .on)
 
   -- an entry takes eight bytes at most
   pub entry-far : (at : ℕ) (e : Entry) (next : ℕ) → entryAt s at ≡ At e next → next ≤ at + 8
   unfolding entryAt
   entry-far at e next p =
-      let a = and-then-inv (upTo 3 24 (numberAt s at)) _ e next p in
-      let b = and-then-inv (upTo 7 25 (numberAt s (a .1))) _ e next (a .3) in
-      let i = limited-one s at 3 24 (a .0) (a .1) (omega arith) (a .2) in
-      let j = limited-one s (a .1) 7 25 (b .0) (b .1) (omega arith) (b .2) in
-      omega (arith, fields-far (b .1) (a .0) (b .0) e next (b .3))
+      let a = went (upTo 3 24 (numberAt s at)) _ e next p in
+      let b = went (upTo 7 25 (numberAt s (a .m))) _ e next (a .on) in
+      let i = limited-one s at 3 24 (a .n) (a .m) (omega arith) (a .is) in
+      let j = limited-one s (a .m) 7 25 (b .n) (b .m) (omega arith) (b .is) in
+      omega (arith, fields-far (b .m) (a .n) (b .n) e next (b .on))
 
 -- ---- the record
 

@@ -22,7 +22,7 @@ use Rattle.law.specs.Operations.{standingFrom, standing, standing-append, opera
 use Rattle.pairs.specs.declared.Row.{Row}
 use Rattle.pairs.specs.Pairs.{Paired, PairsUp}
 use Rattle.pairs.specs.Noting.{Long, Low, rowOf, Noted}
-use Rattle.pairs.specs.Range.{entry-range}
+use Rattle.record.specs.EntryTrip.{written-entry}
 use Rattle.pairs.specs.Next.{OpenAt, paired-next, open-next}
 
 -- ---- entries before what is held after them
@@ -157,7 +157,7 @@ module _ {s kinds cells values starts opened : List ℕ} {st : Standing} {at n :
       → Pairing s kinds′ cells′ values′ starts′ opened′ st′ next (n + 1)
   pairs-on e next bytes h l g z q t =
       let few : n < 2048 = pairs-few l in
-      let r : InRange e = entry-range s bytes at e next g in
+      let r : InRange e = written-entry s at e next bytes g .range in
       let c = counts-on _ _ _ _ _ _ _ _ (w .counting) e next h l g z in
       let left : w .counting .left ≡ suc (c .left) = omega (arith, w .counting .limit, c .limit) in
       let mine : faultAfter (standing (w .read)) e ≡ 0 = ap (λ (x : Standing). faultAfter x e) (w .stands) ∙ z in

@@ -91,18 +91,20 @@ never : {A : Type 0} {k : ℕ} {e : Entry} {next : ℕ} → Fault k ≡ At e nex
 never p = let z : _≡_ {A = ℕ} 0 1 = cc in absurd (omega arith)
 
 -- the number that went on
-record Went (r : Number) (go : ℕ → ℕ → Found) (e : Entry) (next : ℕ) : Type 0 where
-  n : ℕ
-  m : ℕ
-  is : r ≡ Is n m
-  on : go n m ≡ At e next
+pub record Went (r : Number) (go : ℕ → ℕ → Found) (e : Entry) (next : ℕ) : Type 0 where
+  pub n : ℕ
+  pub m : ℕ
+  pub is : r ≡ Is n m
+  pub on : go n m ≡ At e next
 
-went : (r : Number) (go : ℕ → ℕ → Found) (e : Entry) (next : ℕ) → andThen r go ≡ At e next → Went r go e next
+-- an entry was read, so its number was, and the rest after it
+pub went : (r : Number) (go : ℕ → ℕ → Found) (e : Entry) (next : ℕ) → andThen r go ≡ At e next → Went r go e next
 unfolding andThen
 went (Refused k) go e next p = never p
 went (Is n m) go e next p = record { n = n; m = m; is = refl; on = p }
 
-passed : (limit refusal n next : ℕ) (r : Number) → upTo limit refusal r ≡ Is n next → (r ≡ Is n next) × (n ≤ limit)
+-- what `upTo` let through is what was read, and not above the limit
+pub passed : (limit refusal n next : ℕ) (r : Number) → upTo limit refusal r ≡ Is n next → (r ≡ Is n next) × (n ≤ limit)
 unfolding upTo
 passed limit refusal n next (Refused k) p = let z : _≡_ {A = ℕ} 0 1 = cc in absurd (omega arith)
 passed limit refusal n next (Is m k) p = go (ltb limit m) refl p

@@ -24,7 +24,7 @@ use Rattle.verdict.specs.Bridge.{Holds, fits}
 use Rattle.verdict.specs.CellLaw.{unmarked-lawful, marked-unlawful}
 use Rattle.verdict.specs.Shown.{all-shown}
 use Rattle.verdict.specs.Repeats.{distinct-none, distinct-named}
-use Rattle.verdict.specs.Legal.{record-legal}
+use Rattle.record.specs.Trip.{reading-legal}
 
 -- r is the lowest cell whose operations have no lawful order, 16 if there is none
 pub record LowestOf (ops : List Op) (r : ℕ) : Type 0 where
@@ -104,7 +104,7 @@ module _ (s : List ℕ) (kinds cells values starts : List ℕ) (r : Answer) (p :
     -- and the arrays hold them
     holds-all : (es : List Entry) → recordOf s ≡ entries es → length es ≡ n → Holds (arrays kinds cells values starts) n (operations es)
     holds-all es e l =
-        let legal = record-legal s bytes es e in
+        let legal = reading-legal s es bytes e in
         record {
           few = omega (arith, legal .few, l);
           cells = legal-cell es legal;
@@ -120,5 +120,5 @@ module _ (s : List ℕ) (kinds cells values starts : List ℕ) (r : Answer) (p :
     unfolding takenFor
     judges-all v j =
         let w = record-of in
-        let k = j (w .0) (record-legal s bytes (w .0) (w .1 .0)) (w .1 .1) (holds-all (w .0) (w .1 .0) (w .1 .1)) in
+        let k = j (w .0) (reading-legal s (w .0) bytes (w .1 .0)) (w .1 .1) (holds-all (w .0) (w .1 .0) (w .1 .1)) in
         subst (λ (h : Held). Judges (distinct h) v) (sym (w .1 .0)) k

@@ -8,9 +8,8 @@ pub mod OnlyOne
 pub mod Refusals
 pub mod Sheet
 pub mod Bench
--- Legal: what bytes hold has no fault. Passing, Placing, Sweeping: how the passes go on. Bridge, Shown: from arrays to operations and entries.
+-- Passing, Placing, Sweeping: how the passes go on. Bridge, Shown: from arrays to operations and entries.
 -- CellLaw: a cell without a mark is lawful, and one with a mark isn't. Repeats: refusal 29. Judging: the verdict.
-pub mod Legal
 pub mod Passing
 pub mod Placing
 pub mod Sweeping

@@ -18,7 +18,7 @@ use Rattle.verdict.specs.declared.Verdict.{Verdict}
 use Rattle.verdict.specs.declared.Verdict.the-variants.{Lawful as saysLawful, Unlawful as saysUnlawful, Refused as saysRefused}
 use Rattle.verdict.specs.Verdict.{repeats, distinctFrom, distinct, takenFor, Lowest, Judges}
 use Rattle.verdict.specs.Answers.{caseOf, refusalIn, entryIn, cellIn}
-use Rattle.verdict.specs.Legal.{record-legal}
+use Rattle.record.specs.Trip.{reading-legal}
 
 -- ---- a record is one list of entries, and no refusal
 
@@ -114,7 +114,7 @@ taken-same s es p = go (recordOf s) p
 
 module _ (s : List ℕ) (bytes : (i : ℕ) → getD s i 0 < 256) where
   pub taken-legal : LegalHeld (takenFor s)
-  taken-legal es e = record-legal s bytes es (taken-same s es e)
+  taken-legal es e = reading-legal s es bytes (taken-same s es e)
 
   -- two verdicts on the same bytes that are both right are the same, in every word
   pub one-verdict : (v v′ : Verdict) → Judges (takenFor s) v → Judges (takenFor s) v′ → v ≡ v′

@@ -4,7 +4,7 @@ use Prim.Native.Nat.{_-_}
 use mathlib.Core.Path.{sym, _∙_}
 use borrow.Author.Needs.{needs}
 use borrow.Author.Tests.{lt-ltb, le-ltb}
-use Rattle.pairs.specs.Range.{entry-range}
+use Rattle.record.specs.EntryTrip.{written-entry}
 use Rattle.pairs.specs.Pairing.{Pairing, pairs-none, pairs-full, pairs-unread, pairs-misplaced, pairs-few, pairs-end, pairs-on}
 use Rattle.pairs.proofs.pair_up.Statement.{statement}
 use Rattle.pairs.proofs.pair_up.Tie as tie
@@ -46,7 +46,7 @@ returns-3 : tie.Need-returns-3 Inv-loop μ-loop
 returns-3 c = pairs-misplaced (c .before .before .before .before .before .before .before .before .loop .inv) _ _ _ (lt-ltb _ _ (c .before .before .before .before .before .before .before .loop-test .taken)) (c .before .before .before .before .before .before .if1 .left) (sym (c .before .before .before .before .before .entry-at .ensures) ∙ c .before .before .before .e .given .1) (c .before .fault .ensures) (c .if2 .taken)
 
 note-entry-requires : tie.Need-note-entry-requires Inv-loop μ-loop
-note-entry-requires c κs = (pairs-few (c .before .before .before .before .before .before .before .before .before .before .before .before .before .loop .inv) (c .before .before .before .before .before .before .before .before .before .before .before .if1 .left), entry-range _ (λ i. c .before .before .before .before .before .before .before .before .before .before .before .before .before .before .before .before .before .before .before .before .shared-slice-known .given i .fits) _ _ _ (sym (c .before .before .before .before .before .before .before .before .before .before .entry-at .ensures) ∙ c .before .before .before .before .before .before .before .before .e .given .1), c .before .before .before .before .before .before .before .before .before .before .before .before .before .loop .inv .low)
+note-entry-requires c κs = (pairs-few (c .before .before .before .before .before .before .before .before .before .before .before .before .before .loop .inv) (c .before .before .before .before .before .before .before .before .before .before .before .if1 .left), written-entry _ _ _ _ (λ i. c .before .before .before .before .before .before .before .before .before .before .before .before .before .before .before .before .before .before .before .before .shared-slice-known .given i .fits) (sym (c .before .before .before .before .before .before .before .before .before .before .entry-at .ensures) ∙ c .before .before .before .before .before .before .before .before .e .given .1) .range, c .before .before .before .before .before .before .before .before .before .before .before .before .before .loop .inv .low)
 
 after-requires : tie.Need-after-requires Inv-loop μ-loop
 after-requires c κs = search needs
