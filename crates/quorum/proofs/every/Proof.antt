@@ -1,0 +1,21 @@
+-- `quorum::every` meets its contract: below sixteen by a shift, from there on all the bits.
+use borrow.Author.Needs.{needs}
+use native.Mathlib.Omega.{arith}
+use Rattle.quorum.proofs.Laws.{every-sixteen, every-fewer, shl-pos}
+use Rattle.quorum.proofs.every.Statement.{statement}
+use Rattle.quorum.proofs.every.Tie as tie
+
+returns : tie.Need-returns
+returns c = every-sixteen (c .before .args .n) (c .if1 .taken)
+
+shl-result : tie.Need-shl-result
+shl-result c = search needs
+
+sub-result : tie.Need-sub-result
+sub-result c = shl-pos (c .before .args .n) (c .if1 .left)
+
+returns-2 : tie.Need-returns-2
+returns-2 c = every-fewer (c .before .args .n) (c .if1 .left)
+
+pub every-spec : {M : Type 1} → statement M
+every-spec = tie.close (tie.spec returns shl-result sub-result returns-2)

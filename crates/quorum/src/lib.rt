@@ -1,0 +1,104 @@
+// The replicas that have answered: a set, one bit each, and the ones are counted.
+ghost use mathlib.Core.Path.{_≡_};
+ghost use Prim.Native.Nat.{_≤_, _<_};
+ghost use Rattle.quorum.specs.Sets.{hasReplica, withReplica, countOf, asksEnough, keepsEnough, everyReplica, others, within, withoutReplica, majority};
+use record::Replica;
+
+// How many replicas a set has bits for.
+pub const SET_BITS: u8 = 16;
+
+// Whether replica k has answered.
+pub fn has(set: u16, k: Replica) -> bool
+    ensures { λ r. ⌜ r ≡ hasReplica set (k .0) ⌝ }
+{
+    let i = k.0;
+    if SET_BITS <= i {
+        return false;
+    }
+    (set >> i) % 2 == 1
+}
+
+// The set with replica k.
+pub fn with(set: u16, k: Replica) -> u16
+    ensures { λ r. ⌜ r ≡ withReplica set (k .0) ⌝ }
+{
+    let i = k.0;
+    if SET_BITS <= i {
+        return set;
+    }
+    set | (1u16 << i)
+}
+
+// How many replicas have answered.
+pub fn count(set: u16) -> u32
+    ensures { λ r. ⌜ (r ≡ countOf set) × (r ≤ 16) ⌝ }
+{
+    u16::count_ones(set)
+}
+
+// The set without replica k.
+pub fn without(set: u16, k: Replica) -> u16
+    ensures { λ r. ⌜ r ≡ withoutReplica set (k .0) ⌝ }
+{
+    if has(set, k) {
+        let i = k.0;
+        return set - (1u16 << i);
+    }
+    set
+}
+
+// A number of replicas among larger ones.
+fn wide(n: u8) -> u32
+    ensures { λ r. ⌜ (r ≡ n) × (r < 256) ⌝ }
+{
+    n as u32
+}
+
+// Whether the set is more than half of n replicas.
+fn most(n: u8, set: u16) -> bool
+    ensures { λ r. ⌜ r ≡ majority n set ⌝ }
+{
+    wide(n) < 2 * count(set)
+}
+
+// Whether enough of n replicas have told.
+pub fn asks_enough(n: u8, set: u16) -> bool
+    ensures { λ r. ⌜ r ≡ asksEnough n set ⌝ }
+{
+    most(n, set)
+}
+
+// Whether enough of n replicas have kept.
+pub fn keeps_enough(n: u8, set: u16) -> bool
+    ensures { λ r. ⌜ r ≡ keepsEnough n set ⌝ }
+{
+    most(n, set)
+}
+
+// Every replica of n.
+pub fn every(n: u8) -> u16
+    ensures { λ r. ⌜ r ≡ everyReplica n ⌝ }
+{
+    if SET_BITS <= n {
+        return 65535;
+    }
+    (1u16 << n) - 1
+}
+
+// Each replica of n that is not in the set.
+pub fn others(n: u8, set: u16) -> u16
+    ensures { λ r. ⌜ r ≡ others n set ⌝ }
+{
+    let all = every(n);
+    all - (all & set)
+}
+
+// Whether the set has no replica beyond n.
+pub fn within(n: u8, set: u16) -> bool
+    ensures { λ r. ⌜ r ≡ within n set ⌝ }
+{
+    if SET_BITS <= n {
+        return true;
+    }
+    set < (1u16 << n)
+}

@@ -1,0 +1,101 @@
+-- What a test that the code makes says of a definition.
+use Prim.Native.Nat.{ℕ, suc, _+_, _-_, _^_, _≤_, _<_, min}
+use mathlib.Core.Path.{_≡_, refl, ap, sym, _∙_}
+use mathlib.Core.Bool.{Bool, true, false, _||_, _&&_}
+use native.Mathlib.Omega.{arith}
+use mathlib.Core.List.{List}
+use lib.Dec.{ltb, leb, eqb}
+use lib.ListN.{getD, length}
+use lib.IntN.{ℤ}
+use mir.Syntax.{w32}
+use mir.Val.{toZ, ofZ}
+use mir.Facts.{toZ-ofZ}
+use borrow.Author.Tests.{lt-ltb, le-ltb, lt-leb, ltb-true, ltb-false, eq-eqb, ne-eqb}
+use Rattle.number.specs.Value.{signedOf}
+use Rattle.number.specs.ValueLaws.{signed-fits}
+use Rattle.rack.specs.declared.Stamp.{Stamp}
+use Rattle.rack.specs.declared.Party.{Party}
+use Rattle.rack.specs.declared.Rack.{Rack}
+use Rattle.rack.specs.Stamp.{stampLess}
+use Rattle.rack.specs.Places.{idle}
+use Rattle.rack.specs.Sound.{allBelow, sizesFit, owedBy, owed, recordFits}
+use Rattle.rack.specs.SoundLaws.{sized}
+use Rattle.rack.specs.Owed.{owedIn, owed-in, owed-beyond}
+
+-- ---- stamps
+
+pub less-number : (s t : Stamp) → s .number < t .number → true ≡ stampLess s t
+unfolding stampLess
+less-number s t h = rw (lt-ltb (s .number) (t .number) h)
+
+pub more-number : (s t : Stamp) → t .number < s .number → false ≡ stampLess s t
+unfolding stampLess
+more-number s t h = rw (le-ltb (s .number) (t .number) (omega arith), ne-eqb (s .number) (t .number) (λ e. omega arith))
+
+pub less-rank : (s t : Stamp) → t .number ≤ s .number → s .number ≤ t .number → ltb (s .rank) (t .rank) ≡ stampLess s t
+unfolding stampLess
+less-rank s t h l = rw (le-ltb (s .number) (t .number) (omega arith), eq-eqb (s .number) (t .number) (omega arith))
+
+-- ---- room
+
+pub short-none : (room n : ℕ) → n ≡ 0 → false ≡ ltb (room + 1) n
+short-none room n e = sym (le-ltb (room + 1) n (omega arith))
+
+pub short-one : (room n : ℕ) → ltb room (n - 1) ≡ ltb (room + 1) n
+short-one room n = go (ltb room (n - 1)) refl
+  where
+    go : (t : Bool) → ltb room (n - 1) ≡ t → t ≡ ltb (room + 1) n
+    go true e = sym (lt-ltb (room + 1) n (omega (arith, ltb-true room (n - 1) e)))
+    go false e = sym (le-ltb (room + 1) n (omega (arith, ltb-false room (n - 1) e)))
+
+pub short-more : (room n : ℕ) → ltb room n ≡ ltb (room + 0) n
+short-more room n = let e : room + 0 ≡ room = omega arith in rw e
+
+pub taken-full : (taken : ℕ) → 2046 < taken → ltb 2048 (taken + 2) ≡ true
+taken-full taken h = lt-ltb 2048 (taken + 2) (omega arith)
+
+pub taken-free : (taken : ℕ) → taken ≤ 2046 → ltb 2048 (taken + 2) ≡ false
+taken-free taken h = le-ltb 2048 (taken + 2) (omega arith)
+
+-- ---- loops
+
+pub all-end : (n i : ℕ) (f : ℕ → Bool) → n ≤ i → i ≤ n → allBelow i f ≡ true → true ≡ allBelow n f
+all-end n i f h l e = let q : n ≡ i = omega arith in sym (ap (λ (k : ℕ). allBelow k f) q ∙ e)
+
+pub owed-next : (i : ℕ) (ps : List Party) → owedIn (i + 1) ps ≡ owedIn i ps + owedBy (getD ps i idle)
+unfolding owedIn
+owed-next i ps = let e : i + 1 ≡ suc i = omega arith in ap (λ (k : ℕ). owedIn k ps) e
+
+pub owed-end : (n i clients : ℕ) (ps : List Party) → n ≡ min clients 8 → length ps ≡ 8 → n ≤ i → i ≤ n → owedIn i ps ≡ owedIn clients ps
+owed-end n i clients ps e l h k =
+    let q : i ≡ min clients (length ps) = omega arith in
+    ap (λ (j : ℕ). owedIn j ps) q ∙ owed-beyond clients ps
+
+-- ---- the record
+
+pub record-over : (r : Rack) → 2048 < r .count → false ≡ recordFits r
+unfolding recordFits
+record-over r h = sym (lt-leb (r .count + owed r) 2048 (omega arith))
+
+pub record-is : (r : Rack) (n : ℕ) → n ≡ owedIn (r .sizes .clients) (r .parties) → leb (r .count + n) 2048 ≡ recordFits r
+unfolding recordFits
+record-is r n e = ap (λ (k : ℕ). leb (r .count + k) 2048) (e ∙ sym (owed-in r))
+
+-- ---- sizes
+
+-- sizes that fit are bytes
+pub record Bytes (replicas clients cells : ℕ) : Type 0 where
+  pub first : replicas < 256
+  pub second : clients < 256
+  pub third : cells < 256
+
+pub bytes : (replicas clients cells : ℕ) → sizesFit (record { replicas = replicas; clients = clients; cells = cells }) ≡ true → Bytes replicas clients cells
+bytes replicas clients cells e =
+    let z = sized (record { replicas = replicas; clients = clients; cells = cells }) e in
+    record { first = omega (arith, z .replicas); second = omega (arith, z .clients); third = omega (arith, z .cells) }
+
+-- ---- values
+
+-- the machine holds bits: a value that was read is itself again when it is read back from them
+pub signed-held : (z : ℤ) (n : ℕ) → n < 2 ^ 32 → z ≡ signedOf n → toZ w32 (ofZ w32 z) ≡ signedOf n
+signed-held z n h e = ap (λ (y : ℤ). toZ w32 (ofZ w32 y)) e ∙ toZ-ofZ {w = w32} (signed-fits n h)

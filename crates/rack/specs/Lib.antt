@@ -1,0 +1,18 @@
+-- Definitions.
+pub mod Stamp
+pub mod Plan
+pub mod Places
+pub mod Sound
+pub mod Run
+-- Names for parts of them that the code computes.
+pub mod Sight
+pub mod Parts
+-- Laws.
+pub mod Tests
+pub mod SoundLaws
+pub mod PlanLaws
+pub mod Owed
+pub mod Decided
+pub mod Refusals
+pub mod Fresh
+pub mod Sheet

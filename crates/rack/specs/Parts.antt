@@ -1,0 +1,18 @@
+-- Parts of the test of an open operation, as the code makes them.
+use Prim.Native.Nat.{ℕ}
+use mathlib.Core.Bool.{Bool, not, _&&_, _||_}
+use lib.Dec.{ltb, eqb}
+use Rattle.record.specs.declared.Cell.{Cell}
+use Rattle.quorum.specs.Sets.{within, asksEnough, keepsEnough}
+use Rattle.rack.specs.declared.Pair.{Pair}
+use Rattle.rack.specs.declared.Sizes.{Sizes}
+use Rattle.rack.specs.Sound.{pairFits}
+
+abbrev pub toldFits : Sizes → ℕ → Pair → Bool
+toldFits z set held = eqb set 0 || pairFits z held
+
+abbrev pub askFits : Sizes → Cell → ℕ → Pair → Bool
+askFits z cell set held = (ltb (cell .0) (z .cells) && toldFits z set held) && (within (z .replicas) set && not (asksEnough (z .replicas) set))
+
+abbrev pub keepFits : Sizes → Cell → ℕ → Pair → Bool
+keepFits z cell set held = (ltb (cell .0) (z .cells) && pairFits z held) && (within (z .replicas) set && not (keepsEnough (z .replicas) set))

@@ -1,0 +1,67 @@
+-- Where the parts of a rack stand.
+use Prim.Native.Nat.{ℕ, _+_, _*_}
+use mathlib.Core.Bool.{Bool, true, false}
+use mathlib.Core.List.{List, [], _∷_}
+use lib.ListN.{getD, set}
+use Rattle.slots.specs.Free.{countFree, firstFree}
+use Rattle.record.specs.declared.Replica.{Replica}
+use Rattle.record.specs.declared.Entry.{Entry}
+use Rattle.rack.specs.declared.Pair.{Pair}
+use Rattle.rack.specs.declared.Message.{Message}
+use Rattle.rack.specs.declared.Held.{Held}
+use Rattle.rack.specs.declared.Held.the-variants.{Empty, Full}
+use Rattle.rack.specs.declared.Slot.{Slot}
+use Rattle.rack.specs.declared.Work.the-variants.{Idle}
+use Rattle.rack.specs.declared.Party.{Party}
+use Rattle.rack.specs.declared.Rack.{Rack}
+use Rattle.rack.specs.Stamp.{freshPair}
+
+-- the wire has 256 slots
+abbrev pub slotLimit : ℕ
+slotLimit = 256
+
+-- an empty slot, and one that holds a message
+abbrev pub empty : Slot
+empty = record { held = Empty }
+
+abbrev pub full : Message → Slot
+full m = record { held = Full m }
+
+-- a client that has done nothing yet
+abbrev pub idle : Party
+idle = record { stopped = false; op = 0; work = Idle }
+
+-- client i
+abbrev pub partyAt : Rack → ℕ → Party
+partyAt r i = getD (r .parties) i idle
+
+-- the place of replica k's pair for cell x, and that pair
+abbrev pub pairPlace : ℕ → ℕ → ℕ
+pairPlace k x = 16 * k + x
+
+abbrev pub pairAt : Rack → ℕ → ℕ → Pair
+pairAt r k x = getD (r .pairs) (pairPlace k x) freshPair
+
+-- what slot i holds
+abbrev pub heldIn : List Slot → ℕ → Held
+heldIn wire i = getD wire i empty .held
+
+abbrev pub heldAt : Rack → ℕ → Held
+heldAt r i = heldIn (r .wire) i
+
+abbrev pub isEmpty : Held → Bool
+isEmpty Empty = true
+isEmpty (Full m) = false
+
+-- which slots are free
+unfoldable pub freeAt : List Slot → ℕ → Bool
+freeAt wire i = isEmpty (heldIn wire i)
+
+-- how many slots are free
+unfoldable pub roomOf : List Slot → ℕ
+roomOf wire = countFree (freeAt wire)
+
+-- messages to be sent take the lowest free slots in order
+unfoldable pub sentOf : List Slot → List Message → List Slot
+sentOf wire [] = wire
+sentOf wire (m ∷ ms) = sentOf (set wire (firstFree (freeAt wire)) (full m)) ms

@@ -1,0 +1,96 @@
+-- A sound rack. The paper: "A state is unsound exactly when", part by part.
+use Prim.Native.Nat.{ℕ, zero, suc, _+_, _*_}
+use mathlib.Core.Bool.{Bool, true, false, cond, not, _&&_, _||_}
+use mathlib.Core.List.{List}
+use lib.Dec.{ltb, leb, eqb}
+use lib.ListN.{getD}
+use Rattle.record.specs.declared.Cell.{Cell}
+use Rattle.record.specs.Record.{entryLimit}
+use Rattle.quorum.specs.Sets.{within, asksEnough, keepsEnough}
+use Rattle.rack.specs.declared.Pair.{Pair}
+use Rattle.rack.specs.declared.Body.{Body}
+use Rattle.rack.specs.declared.Body.the-variants.{Ask, Tell, Keep, Kept}
+use Rattle.rack.specs.declared.Message.{Message}
+use Rattle.rack.specs.declared.Held.{Held}
+use Rattle.rack.specs.declared.Held.the-variants.{Empty, Full}
+use Rattle.rack.specs.declared.Slot.{Slot}
+use Rattle.rack.specs.declared.Work.{Work}
+use Rattle.rack.specs.declared.Work.the-variants.{Idle, Asking, Keeping}
+use Rattle.rack.specs.declared.Party.{Party}
+use Rattle.rack.specs.declared.Sizes.{Sizes}
+use Rattle.rack.specs.declared.Rack.{Rack}
+use Rattle.rack.specs.Stamp.{freshPair}
+use Rattle.rack.specs.Places.{slotLimit, partyAt, pairAt, heldAt}
+
+-- each number below n
+unfoldable pub allBelow : ℕ → (ℕ → Bool) → Bool
+allBelow zero f = true
+allBelow (suc n) f = allBelow n f && f n
+
+-- 1 to 15 replicas, 1 to 8 clients and 1 to 16 cells
+unfoldable pub sizesFit : Sizes → Bool
+sizesFit z =
+    (leb 1 (z .replicas) && leb (z .replicas) 15) && ((leb 1 (z .clients) && leb (z .clients) 8) && (leb 1 (z .cells) && leb (z .cells) 16))
+
+-- a pair names a rank that the rack has
+unfoldable pub pairFits : Sizes → Pair → Bool
+pairFits z p = ltb (p .stamp .rank) (z .clients)
+
+unfoldable pub bodyFits : Sizes → Body → Bool
+bodyFits z Ask = true
+bodyFits z (Tell p) = pairFits z p
+bodyFits z (Keep p) = pairFits z p
+bodyFits z Kept = true
+
+-- a message names a client, a replica, a cell and a rank that the rack has
+unfoldable pub messageFits : Sizes → Message → Bool
+messageFits z m =
+    (ltb (m .client .0) (z .clients) && ltb (m .replica .0) (z .replicas)) && (ltb (m .cell .0) (z .cells) && bodyFits z (m .body))
+
+unfoldable pub heldFits : Sizes → Held → Bool
+heldFits z Empty = true
+heldFits z (Full m) = messageFits z m
+
+-- an open operation names a cell and, where it holds a pair, a rank that the rack has; its set has no replica that isn't there, and is no majority
+unfoldable pub workFits : Sizes → Work → Bool
+workFits z Idle = true
+workFits z (Asking cell goal set held) =
+    (ltb (cell .0) (z .cells) && (eqb set 0 || pairFits z held)) && (within (z .replicas) set && not (asksEnough (z .replicas) set))
+workFits z (Keeping cell goal set held) =
+    (ltb (cell .0) (z .cells) && pairFits z held) && (within (z .replicas) set && not (keepsEnough (z .replicas) set))
+
+-- answers owed are one for each open operation of a client not stopped
+unfoldable pub owes : Work → ℕ
+owes Idle = 0
+owes (Asking cell goal set held) = 1
+owes (Keeping cell goal set held) = 1
+
+unfoldable pub owedBy : Party → ℕ
+owedBy p = cond (p .stopped) 0 (owes (p .work))
+
+unfoldable pub owedBelow : ℕ → Rack → ℕ
+owedBelow zero r = 0
+owedBelow (suc n) r = owedBelow n r + owedBy (partyAt r n)
+
+unfoldable pub owed : Rack → ℕ
+owed r = owedBelow (r .sizes .clients) r
+
+-- every message on the wire
+unfoldable pub wireFits : Rack → Bool
+wireFits r = allBelow slotLimit (λ i. heldFits (r .sizes) (heldAt r i))
+
+-- every replica's pair for every cell
+unfoldable pub pairsFit : Rack → Bool
+pairsFit r = allBelow (r .sizes .replicas) (λ k. allBelow (r .sizes .cells) (λ x. pairFits (r .sizes) (pairAt r k x)))
+
+-- every client's open operation
+unfoldable pub partiesFit : Rack → Bool
+partiesFit r = allBelow (r .sizes .clients) (λ i. workFits (r .sizes) (partyAt r i .work))
+
+-- entries + answers owed don't exceed 2,048
+unfoldable pub recordFits : Rack → Bool
+recordFits r = leb (r .count + owed r) entryLimit
+
+-- a state is sound when all of these hold (an operation number above 65,535 can't be written down)
+unfoldable pub soundOf : Rack → Bool
+soundOf r = sizesFit (r .sizes) && (wireFits r && (pairsFit r && (partiesFit r && recordFits r)))

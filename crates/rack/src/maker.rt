@@ -1,0 +1,89 @@
+// The rack's own maker.
+ghost use mathlib.Core.Path.{_≡_};
+ghost use Rattle.rack.specs.Places.{idle};
+ghost use Rattle.rack.specs.Run.{freshRack, madeOf};
+use crate::Held;
+use crate::Line;
+use crate::Made;
+use crate::Party;
+use crate::Rack;
+use crate::Sizes;
+use crate::Slot;
+use crate::Work;
+use crate::soundness::sizes_in;
+use crate::stamps::fresh_pair;
+use record::Client;
+use record::Entry;
+
+// A client that has done nothing yet.
+fn idle() -> Party
+    ensures { λ r. ⌜ r ≡ idle ⌝ }
+{
+    Party {
+        stopped: false,
+        op: 0,
+        work: Work::Idle,
+    }
+}
+
+fn sizes_of(replicas: u8, clients: u8, cells: u8) -> Sizes
+    ensures { λ r. ⌜ r ≡ record { replicas = replicas; clients = clients; cells = cells } ⌝ }
+{
+    Sizes {
+        replicas: replicas,
+        clients: clients,
+        cells: cells,
+    }
+}
+
+// The fresh rack: replicas on, every pair stamp (0, 0) with value 0, clients idle at operation number 0, wire and record empty.
+fn fresh(replicas: u8, clients: u8, cells: u8) -> Rack
+    ensures { λ r. ⌜ r ≡ freshRack replicas clients cells ⌝ }
+{
+    let party = idle();
+    let pair = fresh_pair();
+    let slot = Slot { held: Held::Empty };
+    let line = Line {
+        entry: Entry::Done(Client(0)),
+    };
+    let sizes = sizes_of(replicas, clients, cells);
+    let power = quorum::every(replicas);
+    let parties = [party; 8];
+    let pairs = [pair; 240];
+    let wire = [slot; 256];
+    let lines = [line; 2048];
+    Rack {
+        sizes: sizes,
+        power: power,
+        count: 0,
+        parties: parties,
+        pairs: pairs,
+        wire: wire,
+        lines: lines,
+    }
+}
+
+impl Rack {
+    // How many slots a wire has, and how many entries a record holds at most.
+    pub const SLOTS: usize = 256;
+
+    pub const ENTRIES: usize = 2048;
+
+    // The fresh rack of these sizes; where one is out of range, that is refused 1 and the fresh rack is of sizes 1, 1, 1.
+    pub fn made(replicas: u32, clients: u32, cells: u32) -> Made
+        ensures { λ r. ⌜ r ≡ madeOf replicas clients cells ⌝ }
+    {
+        if sizes_in(replicas, clients, cells) {
+            let rack = fresh(replicas as u8, clients as u8, cells as u8);
+            return Made {
+                refusal: 0,
+                rack: rack,
+            };
+        }
+        let rack = fresh(1, 1, 1);
+        Made {
+            refusal: 1,
+            rack: rack,
+        }
+    }
+}

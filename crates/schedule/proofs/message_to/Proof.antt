@@ -1,0 +1,11 @@
+use mathlib.Core.Path.{refl}
+use Rattle.schedule.specs.Sending.{messageTo}
+use Rattle.schedule.proofs.message_to.Statement.{statement}
+use Rattle.schedule.proofs.message_to.Tie as tie
+
+returns : tie.Need-returns
+unfolding messageTo
+returns c = refl
+
+pub message-to-spec : {M : Type 1} → statement M
+message-to-spec = tie.close (tie.spec returns)

@@ -1,0 +1,62 @@
+-- The slots below i are in the map, and after the last all are.
+use Prim.Native.Nat.{_-_, _≤_}
+use borrow.Author.Needs.{needs}
+use Rattle.slots.specs.Words.{Tied}
+use Rattle.slots.specs.Upto.{upTo, upto-start}
+use Rattle.rack.specs.Places.{freeAt}
+use Rattle.schedule.specs.Sending.{map-next, map-all}
+use Rattle.schedule.proofs.start_of.Statement.{statement}
+use Rattle.schedule.proofs.start_of.Tie as tie
+
+abbrev Inv-loop : tie.InvT-loop
+Inv-loop rack free₀ i₀ free i = (i ≤ 256) × (Tied (upTo i (freeAt (rack .wire))) free)
+
+abbrev μ-loop : tie.MeasureT-loop
+μ-loop rack free₀ i₀ free i = 256 - i
+
+loop-holds : tie.Need-loop-holds Inv-loop μ-loop
+loop-holds c = (search needs, upto-start _)
+
+mul-slot : tie.Need-mul-slot Inv-loop μ-loop
+mul-slot c = search needs
+
+element-copy-out-slot : tie.Need-element-copy-out-slot Inv-loop μ-loop
+element-copy-out-slot c = search needs
+
+is-empty-requires : tie.Need-is-empty-requires Inv-loop μ-loop
+is-empty-requires c κs = search needs
+
+mark-requires : tie.Need-mark-requires Inv-loop μ-loop
+mark-requires c κs = search needs
+
+add-i : tie.Need-add-i Inv-loop μ-loop
+add-i c = search needs
+
+loop-less : tie.Need-loop-less Inv-loop μ-loop
+loop-less c = search needs
+
+loop-again : tie.Need-loop-again Inv-loop μ-loop
+loop-again c = (search needs, map-next _ _ _ _ (c .before .is-empty .ensures) (c .mark .ensures _ (c .before .before .before .before .before .loop .inv .1)))
+
+owed-of-requires : tie.Need-owed-of-requires Inv-loop μ-loop
+owed-of-requires c κs = search needs
+
+returns : tie.Need-returns Inv-loop μ-loop
+returns c = (map-all _ _ _ (c .before .before .loop .inv .0) (c .before .loop-test .left) (c .before .before .loop .inv .1), c .owed-of .ensures)
+
+pub start-of-spec : {M : Type 1} → statement M
+start-of-spec =
+    tie.close
+    (tie.spec
+    Inv-loop
+    μ-loop
+    loop-holds
+    mul-slot
+    element-copy-out-slot
+    is-empty-requires
+    mark-requires
+    add-i
+    loop-less
+    loop-again
+    owed-of-requires
+    returns)

@@ -1,0 +1,6 @@
+-- Laws: Steps of a schedule event by event, Stays that a sound rack stays sound, Members and Sending of the wire, Loop of one turn of the code's loop.
+pub mod Steps
+pub mod Stays
+pub mod Members
+pub mod Sending
+pub mod Loop

@@ -1,0 +1,271 @@
+// A schedule of events on a rack, with an allowance.
+ghost use mathlib.Core.Path.{_≡_};
+ghost use mathlib.Core.Bool.{true};
+ghost use mathlib.Core.List.{[], _∷_};
+ghost use Prim.Native.Nat.{_+_, _-_, _*_, _^_, _<_, _≤_};
+ghost use lib.Count.{trailingZeros};
+ghost use lib.ListN.{length};
+ghost use Rattle.slots.specs.Words.{Tied};
+ghost use Rattle.rack.specs.Places.{isEmpty, freeAt};
+ghost use Rattle.rack.specs.Sound.{owedBy, owed, soundOf};
+ghost use Rattle.rack.specs.Run.{ranOf, runFrom, runOf};
+ghost use Rattle.schedule.specs.Steps.{eventAt};
+ghost use Rattle.schedule.specs.Sending.{slotAfter, messageTo};
+ghost use Rattle.schedule.specs.Loop.{Most};
+use rack::Event;
+use rack::Held;
+use rack::Line;
+use rack::Message;
+use rack::Note;
+use rack::Outcome;
+use rack::Party;
+use rack::Rack;
+use rack::Ran;
+use rack::Slot;
+use rack::events::checked;
+use rack::events::client_of;
+use rack::events::decode;
+use rack::events::in_rack;
+use rack::events::place_in;
+use rack::events::slot_of;
+use rack::planning::plan;
+use rack::soundness::owed_by;
+use rack::soundness::owed_by_all;
+use record::Replica;
+
+// ---- the events
+
+// Event i of the words.
+fn event_at(events: &[u32], i: usize) -> Event
+    requires { do ⌜ 4 * i + 4 ≤ (← ⟦events.len()⟧) ⌝ }
+    ensures { λ r. ⌜ r ≡ eventAt (now (events .entry)) i ⌝ }
+{
+    decode(
+        events[4 * i],
+        events[4 * i + 1],
+        events[4 * i + 2],
+        events[4 * i + 3],
+    )
+}
+
+// How many events can be tried: the whole ones, as far as the allowance goes.
+fn most(allowance: usize, words: usize) -> usize
+    ensures { λ r. ⌜ Most allowance words r ⌝ }
+{
+    if allowance <= words / 4 {
+        return allowance;
+    }
+    words / 4
+}
+
+// ---- what is sent
+
+// The lowest replica of a set.
+fn lowest(set: u16) -> u8
+    requires { ⌜ 0 < set ⌝ }
+    ensures { λ r. ⌜ (r ≡ trailingZeros 16 set) × (r < 16) ⌝ }
+{
+    u16::trailing_zeros(set) as u8
+}
+
+// The set without it.
+fn others(set: u16) -> u16
+    requires { ⌜ 0 < set ⌝ }
+    ensures { λ r. ⌜ r ≡ set - 2 ^ trailingZeros 16 set ⌝ }
+{
+    let k = lowest(set);
+    set - (1u16 << k)
+}
+
+// The message to replica k.
+fn message_to(m: Message, k: u8) -> Message
+    ensures { λ r. ⌜ r ≡ messageTo m k ⌝ }
+{
+    let client = m.client;
+    let cell = m.cell;
+    let body = m.body;
+    Message {
+        client: client,
+        replica: Replica(k),
+        cell: cell,
+        op: m.op,
+        body: body,
+    }
+}
+
+// The slot after the event: empty where it is cleared.
+fn slot_after(clear: bool, slot: Slot) -> Slot
+    ensures { λ r. ⌜ r ≡ slotAfter clear slot ⌝ }
+{
+    if clear {
+        let nothing = Held::Empty;
+        return Slot { held: nothing };
+    }
+    slot
+}
+
+// The answers owed after a client changed.
+fn owing_after(owing: usize, before: Party, after: Party) -> usize
+    requires { ⌜ (owedBy before ≤ owing + owedBy after) × (owing ≤ 2048) ⌝ }
+    ensures { λ r. ⌜ r ≡ owing + owedBy after - owedBy before ⌝ }
+{
+    owing + owed_by(after) - owed_by(before)
+}
+
+// ---- what the loop starts with
+
+// Which slots of the wire are free, and how many answers are owed.
+struct Start {
+    free: [u64; 4],
+    owing: usize,
+}
+
+fn is_empty(held: Held) -> bool
+    ensures { λ r. ⌜ r ≡ isEmpty held ⌝ }
+{
+    match held {
+        Held::Empty => true,
+        Held::Full(_) => false,
+    }
+}
+
+fn owed_of(rack: Rack) -> usize
+    ensures { λ r. ⌜ r ≡ owed rack ⌝ }
+{
+    let parties = rack.parties;
+    let sizes = rack.sizes;
+    owed_by_all(parties, sizes.clients)
+}
+
+fn start_of(rack: Rack) -> Start
+    ensures { λ s. ⌜ (Tied (freeAt (rack .wire)) (s .free)) × (s .owing ≡ owed rack) ⌝ }
+{
+    let mut free = [0u64; 4];
+    let mut i: usize = 0;
+    while i < 256 {
+        let slot = rack.wire[i];
+        let held = slot.held;
+        slots::mark(&mut free, i, is_empty(held));
+        i += 1;
+    }
+    Start {
+        free: free,
+        owing: owed_of(rack),
+    }
+}
+
+// Says how long a rack's arrays are: only of a parameter does the check know it.
+fn lengths(wire: [Slot; 256], parties: [Party; 8]) -> usize
+    ensures { λ r. ⌜ (length wire ≡ 256) × (length parties ≡ 8) ⌝ }
+{
+    0
+}
+
+// ---- the schedule
+
+fn ran(done: usize, refusal: u8, rack: Rack) -> Ran
+    ensures { λ r. ⌜ r ≡ ranOf done refusal rack ⌝ }
+{
+    Ran {
+        done: done,
+        refusal: refusal,
+        rack: rack,
+    }
+}
+
+// The loop. Client, pair, power and slot are stored as planned, then the messages go to the lowest free slots in order; the entry stands last. It is one
+// function because an array of structs can't be lent: what stores into the rack stands where the rack is a local.
+fn go_on(mut r: Rack, start: Start, allowance: usize, events: &[u32]) -> Ran
+    requires { ⌜ (soundOf r ≡ true) × ((Tied (freeAt (r .wire)) (start .free)) × (start .owing ≡ owed r)) ⌝ }
+    ensures { λ q. ⌜ q ≡ runFrom 0 r allowance (now (events .entry)) ⌝ }
+{
+    let mut free = start.free;
+    let mut owing = start.owing;
+    let wire = r.wire;
+    let parties = r.parties;
+    lengths(wire, parties);
+    let n = most(allowance, events.len());
+    let mut i: usize = 0;
+    while i < n {
+        let event = event_at(events, i);
+        let sizes = r.sizes;
+        if !in_rack(sizes, event) {
+            return ran(i, 3, r);
+        }
+        let j = slot_of(event);
+        let slot = r.wire[j];
+        let held = slot.held;
+        let c = client_of(event, held);
+        let a = place_in(held);
+        let party = r.parties[c];
+        let pair = r.pairs[a];
+        let planned = plan(sizes.replicas, r.power, party, pair, held, event);
+        let outcome = checked(planned, r.count + owing, slots::count(&free));
+        match outcome {
+            Outcome::No(refusal) => {
+                return ran(i, refusal, r);
+            }
+            Outcome::Go(p) => {
+                let party2 = p.party;
+                owing = owing_after(owing, party, party2);
+                r.parties[c] = party2;
+                let pair2 = p.pair;
+                r.pairs[a] = pair2;
+                r.power = p.power;
+                let slot2 = slot_after(p.clear, slot);
+                r.wire[j] = slot2;
+                slots::mark(&mut free, j, p.clear);
+                let message = p.message;
+                let mut left = p.to;
+                while 0 < left {
+                    let to = message_to(message, lowest(left));
+                    left = others(left);
+                    let f = slots::take(&mut free);
+                    let full = Held::Full(to);
+                    r.wire[f] = Slot { held: full };
+                }
+                i += 1;
+                let note = p.note;
+                match note {
+                    Note::Nothing => {}
+                    Note::Asked(entry) => {
+                        let t = r.count;
+                        r.lines[t] = Line { entry: entry };
+                        r.count = t + 1;
+                    }
+                    Note::Ended(entry) => {
+                        let t = r.count;
+                        r.lines[t] = Line { entry: entry };
+                        r.count = t + 1;
+                    }
+                }
+            }
+        }
+    }
+    ran(i, 0, r)
+}
+
+// Events of four words each are taken in order until the allowance is used, the list ends or one is refused; words after the last whole event are no
+// event. An unsound rack is refused 2 as soon as an event is tried.
+pub fn run(rack: Rack, allowance: usize, events: &[u32]) -> Ran
+    ensures { λ q. ⌜ q ≡ runOf rack allowance (now (events .entry)) ⌝ }
+{
+    if allowance == 0 {
+        return ran(0, 0, rack);
+    }
+    if events.len() < 4 {
+        return ran(0, 0, rack);
+    }
+    if rack.sound() {
+        return go_on(rack, start_of(rack), allowance, events);
+    }
+    ran(0, 2, rack)
+}
+
+// One event.
+pub fn step(rack: Rack, kind: u32, a: u32, b: u32, value: u32) -> Ran
+    ensures { λ q. ⌜ q ≡ runOf rack 1 (kind ∷ a ∷ b ∷ value ∷ []) ⌝ }
+{
+    let words = [kind, a, b, value];
+    run(rack, 1, &words)
+}

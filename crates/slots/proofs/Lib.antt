@@ -1,0 +1,2 @@
+-- Laws: what the walks over the words need, at the wire's number of words.
+mod Laws

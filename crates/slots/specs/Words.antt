@@ -1,0 +1,26 @@
+-- Words of 64 bits, lowest first, that say which slots are free.
+use Prim.Native.Nat.{ℕ, zero, suc, _+_, _*_, _<_}
+use mathlib.Core.Bool.{Bool}
+use mathlib.Core.List.{List}
+use mathlib.Core.Path.{_≡_}
+use lib.ListN.{length, getD}
+use Rattle.slots.specs.Free.{wordCount, digit, firstFree, takenAt}
+
+-- the number whose n bits, lowest first, say which of the n slots from b on are free
+unfoldable pub bitsFrom : ℕ → ℕ → (ℕ → Bool) → ℕ
+bitsFrom zero b f = 0
+bitsFrom (suc n) b f = digit (f b) + 2 * bitsFrom n (b + 1) f
+
+-- w words, the j-th of which says which of the 64 slots from 64 j on are free
+pub record TiedIn (w : ℕ) (f : ℕ → Bool) (ws : List ℕ) : Type 0 where
+  pub size : length ws ≡ w
+  pub words : (j : ℕ) → j < w → getD ws j 0 ≡ bitsFrom 64 (64 * j) f
+
+-- the wire's words
+abbrev pub Tied : (ℕ → Bool) → List ℕ → Type 0
+Tied f ws = TiedIn wordCount f ws
+
+-- what taking a slot has to do: answer the lowest free one, and it is taken after; where none is free nothing changes
+pub record Took (f : ℕ → Bool) (after : List ℕ) (r : ℕ) : Type 0 where
+  pub slot : r ≡ firstFree f
+  pub left : Tied (takenAt f r) after

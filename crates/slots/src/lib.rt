@@ -1,0 +1,101 @@
+// Which of the wire's slots are free, a bit each: the lowest is found by counting zeros, the free ones by counting ones.
+ghost use mathlib.Core.Path.{_≡_};
+ghost use mathlib.Core.Bool.{Bool};
+ghost use Prim.Native.Nat.{ℕ, _-_, _^_, _<_, _≤_};
+ghost use lib.Count.{ones, trailingZeros};
+ghost use Rattle.slots.specs.Free.{slotCount, firstFree, countFree, givenAt, markedAt};
+ghost use Rattle.slots.specs.Words.{Tied, Took};
+
+// How many words there are, and how many slots: 64 for each word.
+pub const WORDS: usize = 4;
+
+pub const SLOTS: usize = 64 * WORDS;
+
+// The lowest bit of x that is set.
+fn low(x: u64) -> usize
+    requires { ⌜ 0 < x ⌝ }
+    ensures { λ r. ⌜ (r ≡ trailingZeros 64 x) × (r < 64) ⌝ }
+{
+    u64::trailing_zeros(x) as usize
+}
+
+// x without that bit.
+fn rest(x: u64) -> u64
+    requires { ⌜ 0 < x ⌝ }
+    ensures { λ r. ⌜ r ≡ x - 2 ^ trailingZeros 64 x ⌝ }
+{
+    let k = low(x);
+    x - (1u64 << k)
+}
+
+// How many bits of x are set.
+fn bits(x: u64) -> usize
+    ensures { λ r. ⌜ (r ≡ ones x) × (r ≤ 64) ⌝ }
+{
+    u64::count_ones(x) as usize
+}
+
+// The lowest free slot; 256 where none is free.
+pub fn lowest(free: &[u64; WORDS]) -> usize
+    ensures { λ r. ⌜ (r ≤ slotCount) × ((f : ℕ → Bool) → Tied f (now (free .entry)) → r ≡ firstFree f) ⌝ }
+{
+    let mut j: usize = 0;
+    while j < WORDS {
+        let word = free[j];
+        if 0 < word {
+            return 64 * j + low(word);
+        }
+        j += 1;
+    }
+    SLOTS
+}
+
+// The lowest free slot, which is then taken; 256 where none is free, and nothing changes.
+pub fn take(free: &mut [u64; WORDS]) -> usize
+    ensures { λ r. ⌜ (r ≤ slotCount) × ((f : ℕ → Bool) → Tied f (now (free .entry)) → Took f (now (free .exit)) r) ⌝ }
+{
+    let mut j: usize = 0;
+    while j < WORDS {
+        let x = free[j];
+        if 0 < x {
+            free[j] = rest(x);
+            return 64 * j + low(x);
+        }
+        j += 1;
+    }
+    SLOTS
+}
+
+// The slot is free again; one past the end changes nothing.
+pub fn give(free: &mut [u64; WORDS], slot: usize)
+    ensures { λ _. ⌜ ((f : ℕ → Bool) → Tied f (now (free .entry)) → Tied (givenAt f slot) (now (free .exit))) ⌝ }
+{
+    if SLOTS <= slot {
+        return;
+    }
+    let j = slot / 64;
+    let k = slot % 64;
+    free[j] = free[j] | (1u64 << k);
+}
+
+// The slot is free again where it is clear.
+pub fn mark(free: &mut [u64; WORDS], slot: usize, clear: bool)
+    ensures { λ _. ⌜ ((f : ℕ → Bool) → Tied f (now (free .entry)) → Tied (markedAt clear f slot) (now (free .exit))) ⌝ }
+{
+    if clear {
+        give(free, slot);
+    }
+}
+
+// How many slots are free.
+pub fn count(free: &[u64; WORDS]) -> usize
+    ensures { λ r. ⌜ (r ≤ slotCount) × ((f : ℕ → Bool) → Tied f (now (free .entry)) → r ≡ countFree f) ⌝ }
+{
+    let mut total: usize = 0;
+    let mut i: usize = 0;
+    while i < WORDS {
+        total += bits(free[i]);
+        i += 1;
+    }
+    total
+}
