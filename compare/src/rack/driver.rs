@@ -46,18 +46,22 @@ pub struct Driver {
     habits: Habits,
     /// The writes so far, for a driver that writes each value once and never 0.
     distinct: Option<u32>,
+    /// A client whose messages are mostly left lying: others then meet its writes half done.
+    slow: Option<u32>,
+    /// How many of eight operations are reads; the slow client always writes.
+    reads: usize,
 }
 
 impl Driver {
     pub fn any(random: &mut Random) -> Driver {
         let habits = random.pick(&[CALM, LOSSY, FLOODING, DRAINING, SWITCHING, STOPPING, WILD]);
-        Driver { habits, distinct: None }
+        Driver { habits, distinct: None, slow: random.one_in(3).then_some(0), reads: random.pick(&[1, 4, 7]) }
     }
 
     /// One whose records 29 leaves alone.
     pub fn of_distinct_values(random: &mut Random) -> Driver {
         let habits = random.pick(&[CALM, LOSSY, FLOODING, SWITCHING, STOPPING]);
-        Driver { habits, distinct: Some(0) }
+        Driver { habits, distinct: Some(0), slow: random.one_in(2).then_some(0), reads: random.pick(&[4, 7]) }
     }
 
     pub fn next(&mut self, random: &mut Random, rack: &Rack) -> [u32; EVENT_WORDS] {
@@ -69,7 +73,7 @@ impl Driver {
                 0 => Event::Resend { client: client(random, rack, |client| client.open.is_some() && !client.stopped) },
                 _ => self.start(random, rack),
             },
-            Choice::Deliver => Event::Deliver { slot: slot_to_deliver(random, rack) },
+            Choice::Deliver => Event::Deliver { slot: self.slot_to_deliver(random, rack) },
             Choice::Lose => Event::Lose { slot: full_slot(random, rack) },
             Choice::Copy => Event::Copy { slot: full_slot(random, rack) },
             Choice::Resend => Event::Resend { client: client(random, rack, |client| client.open.is_some()) },
@@ -92,10 +96,24 @@ impl Driver {
         unreachable!("what was drawn is below the sum")
     }
 
+    fn slot_to_deliver(&self, random: &mut Random, rack: &Rack) -> u32 {
+        let is_slow = |slot: u32| {
+            let message = rack.wire.0[slot as usize];
+            message.is_some_and(|message| Some(message.client) == self.slow)
+        };
+        let mut slot = slot_to_deliver(random, rack);
+        for _ in 0..4 {
+            if is_slow(slot) && !random.one_in(20) {
+                slot = slot_to_deliver(random, rack);
+            }
+        }
+        slot
+    }
+
     fn start(&mut self, random: &mut Random, rack: &Rack) -> Event {
         let client = client(random, rack, |client| client.open.is_none() && !client.stopped);
         let cell = random.below(rack.sizes.cells.max(1) as usize) as u32;
-        if random.one_in(2) {
+        if random.below(8) < self.reads && self.slow != Some(client) {
             return Event::StartRead { client, cell };
         }
         let value = match &mut self.distinct {

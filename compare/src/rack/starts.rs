@@ -64,7 +64,7 @@ fn pair(random: &mut Random, sizes: Sizes, limits: &Limits) -> Pair {
     let small = number_below(random, 4);
     let number = match random.below(8) {
         0 => random.word(),
-        1 | 2 if limits.late_stamps => LAST_STAMP_NUMBER - small,
+        1..=3 if limits.late_stamps => LAST_STAMP_NUMBER - small / 2,
         _ => small,
     };
     Pair { stamp: Stamp { number, rank: number_below(random, sizes.clients) }, value: making::value(random) }

@@ -13,8 +13,8 @@
 //!
 //! A value is the number it is written as. Words that a kind hasn't got stand as 0 and aren't looked at: all of an idle
 //! client but its first three, the value of a read's goal, what an asking client with an empty set holds (nothing), all of
-//! an empty slot but its first, the pair of an ask or a kept, entries beyond the count. Clients, pairs and power bits beyond
-//! the sizes are no part of the rack: never looked at and never changed.
+//! an empty slot but its first, the pair of an ask or a kept, entries beyond the count. A run that does an event leaves 0
+//! there. Clients, pairs and power bits beyond the sizes are no part of the rack: never looked at and never changed.
 //!
 //! Words that are no state at all (a phase 3, a body 4, a count above 2,048, bits above the fifteenth replica's power or the
 //! sixteen of a set, an entry of kind 4 or of a ninth client) are unsound: refused 2 as soon as an event is tried.
