@@ -7,5 +7,6 @@ pub mod histories;
 pub mod law;
 pub mod making;
 pub mod paper;
+pub mod rack;
 pub mod random;
 pub mod samples;

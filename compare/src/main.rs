@@ -4,6 +4,7 @@
 
 mod check;
 mod numbers;
+mod racks;
 mod rattle;
 mod reader;
 mod response;
@@ -23,7 +24,10 @@ use std::time::Instant;
 
 const USAGE: &str = "usage: compare [all | records | verdicts | bench-sheet] [--seed NUMBER]
        compare samples FOLDER          makes the sample records
-       compare check-samples FOLDER    holds the sample records to what would be made";
+       compare check-samples FOLDER    holds the sample records to what would be made
+       compare racks [--seed NUMBER]   holds the two independent racks to each other
+       compare drill                   runs the script on standard input
+       compare bench-rack              times the quick rack";
 
 const USUAL_SEED: u64 = 2048;
 
@@ -35,6 +39,10 @@ fn main() -> ExitCode {
         ["check-samples", folder] => check_samples(Path::new(folder)),
         [] | ["all"] => all(USUAL_SEED),
         ["bench-sheet"] => bench_sheet(),
+        ["racks"] => racks::compare_racks(USUAL_SEED),
+        ["racks", "--seed", seed] => seed.parse().map_or_else(|_| usage(), racks::compare_racks),
+        ["drill"] => racks::drill_program(),
+        ["bench-rack"] => racks::bench_racks(),
         ["records"] => run_all(&RECORDS, USUAL_SEED),
         ["verdicts"] => run_all(&[VERDICTS], USUAL_SEED),
         ["--seed", seed] | ["all", "--seed", seed] => seed.parse().map_or_else(|_| usage(), all),

@@ -25,7 +25,7 @@ pub fn rows_of(entries: &[Entry]) -> Vec<u32> {
 }
 
 /// The entry of a row, or 24 or 25. Only the fields that its kind has are looked at.
-fn entry_of(row: &[u32]) -> Result<Entry, u8> {
+pub fn entry_of(row: &[u32]) -> Result<Entry, u8> {
     let (kind, client, cell, value) = (row[0], row[1], row[2], signed(row[3]));
     match kind {
         0 => Ok(Entry::ReadAsked { client: client_from(client)?, cell: cell_from(cell)? }),
