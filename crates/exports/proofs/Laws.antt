@@ -32,14 +32,16 @@ read-near s at n next h p = let w = written-read s at n next h p in (omega (arit
 
 pub put-near : (d : List ℕ) (at n next : ℕ) → putAnswer d at n ≡ Next next → Near at next
 put-near d at n next p = elim (decLe (at + length (numberBytes n)) (length d)) [
-    yes h ↦ (let q = sym (put-fits d at n h) ∙ p in let e : at + length (numberBytes n) ≡ next = cc in (omega arith, omega (arith, length-few n)))
-  | no h ↦ (let q = sym (put-refused d at n (omega (arith, h))) ∙ p in let z : _≡_ {A = ℕ} 0 1 = cc in absurd (omega arith)) ]
+  | yes h ↦ (let q = sym (put-fits d at n h) ∙ p in let e : at + length (numberBytes n) ≡ next = cc in (omega arith, omega (arith, length-few n)))
+  | no h ↦ (let q = sym (put-refused d at n (omega (arith, h))) ∙ p in let z : _≡_ {A = ℕ} 0 1 = cc in absurd (omega arith))
+]
 
 -- an entry that a refusal names is at most 2,048
 small : {low k n : ℕ} → Refusal low k n → n < 2 ^ 32
 small {low} {k} w = elim (decLe k 27) [
-    yes h ↦ (let l = w .early (omega arith) in omega arith)
-  | no h ↦ (let l = w .last (omega (arith, h, w .most)) in omega arith) ]
+  | yes h ↦ (let l = w .early (omega arith) in omega arith)
+  | no h ↦ (let l = w .last (omega (arith, h, w .most)) in omega arith)
+]
 
 pub read-small : (s d : List ℕ) (a : Answer) → a ≡ readOutcome s d .answer → Small a
 read-small s d (All n) e = tt
@@ -67,8 +69,9 @@ verdict-named s b (fault j m) e k n p = let i : fault j m ≡ fault k n = p in n
   where
     named : Named 21 k n 2048 → n < 2 ^ 32
     named w = elim (decLe k 27) [
-        yes h ↦ (let l = w .early (omega arith) in omega arith)
-      | no h ↦ (let l = w .last (omega (arith, h, w .most)) in omega arith) ]
+      | yes h ↦ (let l = w .early (omega arith) in omega arith)
+      | no h ↦ (let l = w .last (omega (arith, h, w .most)) in omega arith)
+    ]
 
 pub verdict-brief : (s : List ℕ) → Bytes s → (v : Verdict) → Judges (takenFor s) v → Brief v
 unfolding takenFor

@@ -1,11 +1,12 @@
 // What each event does, planned from the few things that it looks at: how many replicas there are, the power, the client, the pair and the slot.
 ghost use mathlib.Core.Path.{_≡_};
-ghost use mathlib.Core.Bool.{false};
+ghost use mathlib.Core.Bool.{true, false};
 ghost use Prim.Native.Nat.{_<_};
 ghost use Rattle.quorum.specs.Sets.{others};
-ghost use Rattle.rack.specs.declared.Note.the-variants.{Nothing};
+ghost use Rattle.rack.specs.declared.Note.the-variants.{Nothing, Ended};
+ghost use Rattle.rack.specs.declared.Work.the-variants.{Idle, Asking};
 ghost use Rattle.rack.specs.Sight.{sightOf};
-ghost use Rattle.rack.specs.Plan.{messageOf, partyAt, planned, usedUp, answered, started, startOf, askOf, keepOf, current, keepsOf, phaseEnds, holds, tellCounts, tellIn, tellOf, lastEntry, keptCounts, keptIn, keptOf, deliverOf, copyOf, resendIn, resendOf, noMessage, stopOf, powered, offOf, onOf, planOf};
+ghost use Rattle.rack.specs.Plan.{messageOf, partyAt, planned, usedUp, answered, started, startOf, askOf, keepOf, current, keepsOf, phaseEnds, holds, tellCounts, tellIn, tellOf, lastEntry, keptCounts, keptIn, keptOf, deliverOf, copyOf, resendIn, resendOf, noMessage, stopOf, powered, offOf, onOf, ofSlot, planOf};
 use crate::Body;
 use crate::Event;
 use crate::Goal;
@@ -326,7 +327,39 @@ fn tell_counts(
     )
 }
 
-// A tell counts only in the ask phase, and if this replica isn't yet in the set.
+// A tell in the ask phase counts if this replica isn't yet in the set.
+fn tell_asking(
+    replicas: u8,
+    power: u16,
+    party: Party,
+    pair: Pair,
+    m: Message,
+    cell: Cell,
+    goal: Goal,
+    set: u16,
+    held: Pair,
+    q: Pair,
+) -> Outcome
+    ensures { λ r. ⌜ r ≡ tellIn (Asking cell goal set held) (sightOf replicas power party pair) m q ⌝ }
+{
+    let teller = m.replica;
+    if quorum::has(set, teller) {
+        return used_up(replicas, power, party, pair, m);
+    }
+    tell_counts(
+        replicas,
+        power,
+        party,
+        pair,
+        m,
+        cell,
+        goal,
+        quorum::with(set, teller),
+        hold(set, held, q),
+    )
+}
+
+// A tell counts only in the ask phase.
 fn tell_in(
     work: Work,
     replicas: u8,
@@ -351,23 +384,7 @@ fn tell_in(
             goal,
             set,
             held,
-        } => {
-            let teller = m.replica;
-            if quorum::has(set, teller) {
-                return used_up(replicas, power, party, pair, m);
-            }
-            tell_counts(
-                replicas,
-                power,
-                party,
-                pair,
-                m,
-                cell,
-                goal,
-                quorum::with(set, teller),
-                hold(set, held, q),
-            )
-        }
+        } => tell_asking(replicas, power, party, pair, m, cell, goal, set, held, q),
     }
 }
 
@@ -391,6 +408,32 @@ fn last_entry(goal: Goal, client: Client, held: Pair) -> Entry
     }
 }
 
+// The operation ends: the record gets its entry, the client is idle.
+fn ended(
+    replicas: u8,
+    power: u16,
+    party: Party,
+    pair: Pair,
+    m: Message,
+    goal: Goal,
+    held: Pair,
+) -> Outcome
+    ensures { λ r. ⌜ r ≡ planned (sightOf replicas power party pair) (partyAt (party .op) Idle) true (Ended (lastEntry goal (m .client) held)) m 0 ⌝ }
+{
+    let client = m.client;
+    let entry = last_entry(goal, client, held);
+    planned(
+        replicas,
+        power,
+        pair,
+        at_work(party.op, Work::Idle),
+        true,
+        Note::Ended(entry),
+        m,
+        0,
+    )
+}
+
 // A kept that counts: at a majority the operation ends, the record gets its entry, the client is idle.
 fn kept_counts(
     replicas: u8,
@@ -406,18 +449,7 @@ fn kept_counts(
     ensures { λ r. ⌜ r ≡ keptCounts (sightOf replicas power party pair) m cell goal set held ⌝ }
 {
     if quorum::keeps_enough(replicas, set) {
-        let client = m.client;
-        let entry = last_entry(goal, client, held);
-        return planned(
-            replicas,
-            power,
-            pair,
-            at_work(party.op, Work::Idle),
-            true,
-            Note::Ended(entry),
-            m,
-            0,
-        );
+        return ended(replicas, power, party, pair, m, goal, held);
     }
     let work = Work::Keeping {
         cell: cell,
@@ -645,6 +677,36 @@ fn on(replicas: u8, power: u16, party: Party, pair: Pair, replica: Replica) -> O
     powered(replicas, power, party, pair, quorum::with(power, replica))
 }
 
+// What a slot holds is delivered.
+fn deliver_held(replicas: u8, power: u16, party: Party, pair: Pair, held: Held) -> Outcome
+    ensures { λ r. ⌜ r ≡ ofSlot (deliverOf (sightOf replicas power party pair)) held ⌝ }
+{
+    match held {
+        Held::Empty => Outcome::No(4),
+        Held::Full(m) => deliver(replicas, power, party, pair, m),
+    }
+}
+
+// What a slot holds is lost.
+fn lose_held(replicas: u8, power: u16, party: Party, pair: Pair, held: Held) -> Outcome
+    ensures { λ r. ⌜ r ≡ ofSlot (usedUp (sightOf replicas power party pair)) held ⌝ }
+{
+    match held {
+        Held::Empty => Outcome::No(4),
+        Held::Full(m) => used_up(replicas, power, party, pair, m),
+    }
+}
+
+// What a slot holds is copied.
+fn copy_held(replicas: u8, power: u16, party: Party, pair: Pair, held: Held) -> Outcome
+    ensures { λ r. ⌜ r ≡ ofSlot (copyOf (sightOf replicas power party pair)) held ⌝ }
+{
+    match held {
+        Held::Empty => Outcome::No(4),
+        Held::Full(m) => copy(replicas, power, party, pair, m),
+    }
+}
+
 // The plan for an event, with what its slot holds.
 pub fn plan(replicas: u8, power: u16, party: Party, pair: Pair, held: Held, event: Event) -> Outcome
     ensures { λ r. ⌜ r ≡ planOf (record { replicas = replicas; power = power; party = party; pair = pair }) held event ⌝ }
@@ -670,18 +732,9 @@ pub fn plan(replicas: u8, power: u16, party: Party, pair: Pair, held: Held, even
             Goal::Write(v),
             Entry::WriteAsked(client, cell, v),
         ),
-        Event::Deliver(_) => match held {
-            Held::Empty => Outcome::No(4),
-            Held::Full(m) => deliver(replicas, power, party, pair, m),
-        },
-        Event::Lose(_) => match held {
-            Held::Empty => Outcome::No(4),
-            Held::Full(m) => used_up(replicas, power, party, pair, m),
-        },
-        Event::Copy(_) => match held {
-            Held::Empty => Outcome::No(4),
-            Held::Full(m) => copy(replicas, power, party, pair, m),
-        },
+        Event::Deliver(_) => deliver_held(replicas, power, party, pair, held),
+        Event::Lose(_) => lose_held(replicas, power, party, pair, held),
+        Event::Copy(_) => copy_held(replicas, power, party, pair, held),
         Event::Resend(client) => resend(replicas, power, party, pair, client),
         Event::Stop(_) => stop(replicas, power, party, pair),
         Event::Off(replica) => off(replicas, power, party, pair, replica),

@@ -1,22 +1,18 @@
 -- What the loop of a schedule knows, and one turn of it.
-use Prim.Native.Nat.{ℕ, zero, suc, _+_, _-_, _*_, _/_, _^_, _≤_, _<_}
+use Prim.Native.Nat.{ℕ, _+_, _-_, _*_, _/_, _^_, _≤_, _<_}
 use mathlib.Core.Path.{_≡_, refl, ap, sym, _∙_}
-use mathlib.Core.Bool.{Bool, true, false, cond}
-use mathlib.Core.List.{List, [], _∷_}
+use mathlib.Core.Bool.{Bool, true, false}
+use mathlib.Core.List.{List}
 use native.Mathlib.Omega.{arith}
-use lib.Dec.{ltb, leb, eqb}
+use lib.Dec.{ltb, leb}
 use lib.ListN.{getD, set, length, length-set, drop}
-use lib.Count.{ones}
 use borrow.Author.Tests.{ltb-true, leb-true, leb-false}
 use Rattle.record.specs.declared.Entry.{Entry}
 use Rattle.slots.specs.Free.{countFree, markedAt}
 use Rattle.slots.specs.Words.{Tied}
 use Rattle.quorum.specs.Sets.{within, membersOf}
-use Rattle.rack.specs.declared.Pair.{Pair}
 use Rattle.rack.specs.declared.Message.{Message}
 use Rattle.rack.specs.declared.Slot.{Slot}
-use Rattle.rack.specs.declared.Line.{Line}
-use Rattle.rack.specs.declared.Party.{Party}
 use Rattle.rack.specs.declared.Rack.{Rack}
 use Rattle.rack.specs.declared.Event.{Event}
 use Rattle.rack.specs.declared.Note.{Note}
@@ -24,14 +20,12 @@ use Rattle.rack.specs.declared.Note.the-variants.{Nothing, Asked, Ended}
 use Rattle.rack.specs.declared.Plan.{Plan}
 use Rattle.rack.specs.declared.Outcome.{Outcome}
 use Rattle.rack.specs.declared.Outcome.the-variants.{No, Go}
-use Rattle.rack.specs.declared.Ran.{Ran}
 use Rattle.rack.specs.Stamp.{freshPair}
 use Rattle.rack.specs.Plan.{planOf}
-use Rattle.rack.specs.Places.{empty, idle, partyAt, heldAt, heldIn, isEmpty, freeAt, roomOf, sentOf}
+use Rattle.rack.specs.Places.{empty, idle, heldIn, freeAt, roomOf, sentOf}
 use Rattle.rack.specs.Sound.{owedBy, owed, soundOf}
-use Rattle.rack.specs.Run.{inRack, slotOf, placeIn, clientOf, freed, checked, decided, addressed, cleared, recorded, entriesIn, appliedOf, turn, ranOf, runFrom}
-use Rattle.rack.specs.SoundLaws.{Sized, Sound, sound-of}
-use Rattle.rack.specs.PlanLaws.{PlanFits}
+use Rattle.rack.specs.Run.{inRack, slotOf, placeIn, clientOf, checked, decided, addressed, cleared, recorded, entriesIn, appliedOf, turn, ranOf, runFrom}
+use Rattle.rack.specs.SoundLaws.{sound-of}
 use Rattle.rack.specs.Decided.{lookedClient, lookedParty, lookedPlace, Looked, looked, Decided, decided-fits}
 use Rattle.schedule.specs.Stays.{stays, sound-stays, owed-after}
 use Rattle.schedule.specs.Steps.{eventAt, tried, used-up, ended}
@@ -130,7 +124,11 @@ module _ (self : Rack) (allowance : ℕ) (ws : List ℕ) (r : Rack) (free : List
   pub going-plan : (e : Event) (j c a room : ℕ) (q o : Outcome) → inRack (r .sizes) e ≡ true → j ≡ slotOf e → c ≡ clientOf e (heldIn (r .wire) j)
       → a ≡ placeIn (heldIn (r .wire) j) → room ≡ countFree (freeAt (r .wire))
       → q ≡ planOf (record {
-        replicas = r .sizes .replicas; power = r .power; party = getD (r .parties) c idle; pair = getD (r .pairs) a freshPair }) (heldIn (r .wire) j) e
+        replicas = r .sizes .replicas;
+        power = r .power;
+        party = getD (r .parties) c idle;
+        pair = getD (r .pairs) a freshPair;
+      }) (heldIn (r .wire) j) e
       → o ≡ checked q (r .count + owing) room → decided r e ≡ o
   unfolding decided roomOf
   going-plan e j c a room q o h ej ec ea er eq eo = sym (eo ∙ rw (eq, h, er, g .owes, ec, ea, ej))
@@ -161,7 +159,7 @@ module _ (self : Rack) (allowance : ℕ) (ws : List ℕ) (r : Rack) (free : List
   going-owes e j c p d ej ec =
       let f : Decided r e p = decided-fits r e p (g .sound) d in
       let x : owed (appliedOf r e p) + owedBy (lookedParty r e) ≡ owed r + owedBy (p .party) =
-            owed-after r e p f (omega (arith, sound-of r (g .sound) .sizes .clients, g .parties-long)) in
+      owed-after r e p f (omega (arith, sound-of r (g .sound) .sizes .clients, g .parties-long)) in
       rw (ec, ej, g .owes) x
 
   -- so the local count of them can be kept
@@ -181,7 +179,8 @@ module _ (self : Rack) (allowance : ℕ) (ws : List ℕ) (r : Rack) (free : List
         tied = t;
         owes = omega (arith, eo, going-owes e j c p d ej ec, ap owed es);
         wire-long = ap (λ (q : Rack). length (q .wire)) es ∙ applied-wire r e p ∙ g .wire-long;
-        parties-long = ap (λ (q : Rack). length (q .parties)) es ∙ applied-parties r e p ∙ g .parties-long }
+        parties-long = ap (λ (q : Rack). length (q .parties)) es ∙ applied-parties r e p ∙ g .parties-long;
+      }
 
 -- ---- the stores of a turn are the rack after the plan
 
@@ -193,15 +192,27 @@ wired r w = record { sizes = r .sizes; power = r .power; count = r .count; parti
 abbrev pub entered : Rack → Entry → Rack
 entered r e =
     record {
-      sizes = r .sizes; power = r .power; count = r .count + 1; parties = r .parties; pairs = r .pairs; wire = r .wire;
-      lines = set (r .lines) (r .count) (record { entry = e }) }
+      sizes = r .sizes;
+      power = r .power;
+      count = r .count + 1;
+      parties = r .parties;
+      pairs = r .pairs;
+      wire = r .wire;
+      lines = set (r .lines) (r .count) (record { entry = e });
+    }
 
 -- the rack before its messages are sent and its entry stands
 abbrev pub turned : Rack → Plan → ℕ → ℕ → ℕ → Slot → Rack
 turned r p j c a s =
     record {
-      sizes = r .sizes; power = p .power; count = r .count; parties = set (r .parties) c (p .party); pairs = set (r .pairs) a (p .pair);
-      wire = set (r .wire) j s; lines = r .lines }
+      sizes = r .sizes;
+      power = p .power;
+      count = r .count;
+      parties = set (r .parties) c (p .party);
+      pairs = set (r .pairs) a (p .pair);
+      wire = set (r .wire) j s;
+      lines = r .lines;
+    }
 
 -- the inner loop: only the wire changes
 pub record Shipping (v : Rack) (m : Message) (to : ℕ) (r : Rack) (free : List ℕ) (left : ℕ) : Type 0 where

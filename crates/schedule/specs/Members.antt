@@ -1,7 +1,6 @@
 -- The members of a set, one at a time from the lowest: what is left to send is a set again, without its lowest bit.
-use Prim.Native.Nat.{ℕ, zero, suc, _+_, _-_, _*_, _/_, _%_, _^_, _≤_, _<_}
+use Prim.Native.Nat.{ℕ, zero, suc, _+_, _-_, _/_, _%_, _^_, _≤_, _<_}
 use mathlib.Core.Path.{_≡_, refl, ap, sym, _∙_}
-use mathlib.Core.Bool.{Bool, true, false}
 use mathlib.Core.List.{List, [], _∷_}
 use native.Mathlib.Omega.{arith}
 use native.Mathlib.Nat.{pow-suc, zero-add}
@@ -9,6 +8,7 @@ use lib.Dec.{eqb}
 use lib.ListN.{length}
 use lib.Count.{ones, ones-step, trailingZeros, under}
 use lib.Pow.{shr-shr, pow-mono}
+use Rattle.slots.specs.Bits.{trailing-room}
 use Rattle.quorum.specs.Sets.{hasReplica, keepIf, membersFrom, membersOf}
 
 -- the members by their bits: n bits of x, the lowest of which is for replica b
@@ -36,15 +36,6 @@ more-bits (suc n) m b x h =
     let s : suc n + m ≡ suc (n + m) = omega arith in
     rw s (ap (keepIf (eqb (x % 2) 1) b) (more-bits n m (b + 1) (x / 2) (omega (arith, pow-suc 2 n))))
 
-trailing-room : (n x : ℕ) → 0 < x → 2 ^ trailingZeros n x ≤ x
-unfolding trailingZeros
-trailing-room zero x l = omega arith
-trailing-room (suc n) x l = go (x % 2) refl (trailing-room n (x / 2))
-  where
-    go : (d : ℕ) → x % 2 ≡ d → (0 < x / 2 → 2 ^ trailingZeros n (x / 2) ≤ x / 2) → 2 ^ under d (trailingZeros n (x / 2)) ≤ x
-    go zero e ih = let k : 2 ^ trailingZeros n (x / 2) ≤ x / 2 = ih (omega arith) in omega (arith, pow-suc 2 (trailingZeros n (x / 2)))
-    go (suc d) e ih = omega arith
-
 -- the lowest first
 bits-next : (n b x : ℕ) → x < 2 ^ n → 0 < x → bitMembers n b x ≡ (b + trailingZeros n x) ∷ bitMembers n b (x - 2 ^ trailingZeros n x)
 unfolding bitMembers trailingZeros
@@ -52,9 +43,9 @@ bits-next zero b x h l = absurd (omega arith)
 bits-next (suc n) b x h l = go (x % 2) refl (bits-next n (b + 1) (x / 2))
   where
     go : (d : ℕ) → x % 2 ≡ d
-       → (x / 2 < 2 ^ n → 0 < x / 2 → bitMembers n (b + 1) (x / 2) ≡ (b + 1 + trailingZeros n (x / 2)) ∷ bitMembers n (b + 1) (x / 2 - 2 ^ trailingZeros n (x / 2)))
-       → keepIf (eqb (x % 2) 1) b (bitMembers n (b + 1) (x / 2))
-         ≡ (b + under (x % 2) (trailingZeros n (x / 2))) ∷ bitMembers (suc n) b (x - 2 ^ under (x % 2) (trailingZeros n (x / 2)))
+        → (x / 2 < 2 ^ n → 0 < x / 2 → bitMembers n (b + 1) (x / 2) ≡ (b + 1 + trailingZeros n (x / 2)) ∷ bitMembers n (b + 1) (x / 2 - 2 ^ trailingZeros n (x / 2)))
+        → keepIf (eqb (x % 2) 1) b (bitMembers n (b + 1) (x / 2))
+        ≡ (b + under (x % 2) (trailingZeros n (x / 2))) ∷ bitMembers (suc n) b (x - 2 ^ under (x % 2) (trailingZeros n (x / 2)))
     go zero e ih =
         let p : 0 < x / 2 = omega arith in
         let r : 2 ^ trailingZeros n (x / 2) ≤ x / 2 = trailing-room n (x / 2) p in
@@ -75,7 +66,7 @@ bits-count zero b x h = let e : x ≡ 0 = omega arith in rw e
 bits-count (suc n) b x h = go (x % 2) refl (bits-count n (b + 1) (x / 2) (omega (arith, pow-suc 2 n)))
   where
     go : (d : ℕ) → x % 2 ≡ d → length (bitMembers n (b + 1) (x / 2)) ≡ ones (x / 2)
-       → length (keepIf (eqb (x % 2) 1) b (bitMembers n (b + 1) (x / 2))) ≡ ones x
+        → length (keepIf (eqb (x % 2) 1) b (bitMembers n (b + 1) (x / 2))) ≡ ones x
     go zero e ih = rw e (omega (arith, ih, ones-step x))
     go (suc zero) e ih = rw e (omega (arith, ih, ones-step x))
     go (suc (suc d)) e ih = absurd (omega arith)

@@ -1,7 +1,7 @@
 -- The wire: messages to be sent take the lowest free slots in order, each leaves one slot less, and with enough room each finds one.
-use Prim.Native.Nat.{ℕ, zero, suc, _+_, _-_, _*_, _/_, _%_, _^_, _≤_, _<_}
+use Prim.Native.Nat.{ℕ, _+_, _-_, _^_, _≤_, _<_}
 use mathlib.Core.Path.{_≡_, refl, ap, sym, _∙_}
-use mathlib.Core.Bool.{Bool, true, false, cond}
+use mathlib.Core.Bool.{Bool, true, false}
 use mathlib.Core.List.{List, [], _∷_}
 use native.Mathlib.Omega.{arith}
 use lib.Dec.{eqb}
@@ -126,7 +126,7 @@ unfolding roomOf freed
 cleared-room b j w h l f = go b refl (count-same 256 0 (markedAt b (freeAt w) j) (freeAt (cleared b j w)) (λ k x y. free-cleared b j w (omega (arith, l)) k)) f
   where
     go : (t : Bool) → b ≡ t → countFrom 256 0 (freeAt (cleared b j w)) ≡ countFrom 256 0 (markedAt b (freeAt w) j) → (b ≡ true → freeAt w j ≡ false)
-       → countFrom 256 0 (freeAt (cleared b j w)) ≡ countFrom 256 0 (freeAt w) + freed b
+        → countFrom 256 0 (freeAt (cleared b j w)) ≡ countFrom 256 0 (freeAt w) + freed b
     go true e s f = s ∙ rw e (count-given (freeAt w) j h (f e))
     go false e s f = s ∙ rw e (omega arith)
 
@@ -166,9 +166,9 @@ module _ (n : ℕ) (v : List Slot) (m : Message) (to : ℕ) (w : List Slot) (fre
   sending-more l after f k x y t ek ex ey =
       let h : f < 256 = sending-place l after f t in
       let e : set w f (full y) ≡ set w (lowestIn w) (full (messageTo m (trailingZeros 16 left))) =
-            ap (λ (i : ℕ). set w i (full y)) (t .slot) ∙ ap (λ (z : Message). set w (lowestIn w) (full z)) (ey ∙ ap (messageTo m) ek) in
+      ap (λ (i : ℕ). set w i (full y)) (t .slot) ∙ ap (λ (z : Message). set w (lowestIn w) (full z)) (ey ∙ ap (messageTo m) ek) in
       let q : membersOf n left ≡ trailingZeros 16 left ∷ membersOf n x =
-            members-next n left (s .most) (s .small) l ∙ ap (λ (z : ℕ). trailingZeros 16 left ∷ membersOf n z) (sym ex) in
+      members-next n left (s .most) (s .small) l ∙ ap (λ (z : ℕ). trailingZeros 16 left ∷ membersOf n z) (sym ex) in
       let o : ones x + 1 ≡ ones left = ap (λ (z : ℕ). ones z + 1) ex ∙ ones-rest n left (s .most) (s .small) l in
       let r : roomOf (set w f (full y)) + 1 ≡ roomOf w = ap (λ (z : List Slot). roomOf z + 1) e ∙ sent-one w (messageTo m (trailingZeros 16 left)) (s .long) (sending-room l) in
       record {
@@ -177,7 +177,8 @@ module _ (n : ℕ) (v : List Slot) (m : Message) (to : ℕ) (w : List Slot) (fre
         enough = omega (arith, s .enough, o, r);
         long = length-set w f (full y) ∙ s .long;
         small = omega (arith, s .small);
-        most = s .most }
+        most = s .most;
+      }
 
   pub sending-end : left ≡ 0 → sentOf v (addressed m (membersOf n to)) ≡ w
   sending-end e = s .sent ∙ ap (λ (x : ℕ). sentOf w (addressed m (membersOf n x))) e ∙ sent-none n w m
@@ -194,7 +195,8 @@ sending-start n w j b s m to free after es h l f t k o sm nm =
       enough = rw e (omega (arith, o, cleared-room b j w h l f));
       long = length-set w j s ∙ l;
       small = sm;
-      most = nm }
+      most = nm;
+    }
 
 -- ---- the map made a slot at a time
 

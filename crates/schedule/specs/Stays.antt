@@ -1,6 +1,6 @@
 -- A sound rack stays sound.
 use Prim.Native.Nat.{ℕ, zero, suc, _+_, _≤_, _<_}
-use mathlib.Core.Path.{_≡_, refl, ap, sym, _∙_}
+use mathlib.Core.Path.{_≡_, refl, ap}
 use mathlib.Core.Bool.{Bool, true, false}
 use mathlib.Core.List.{List, [], _∷_}
 use native.Mathlib.Omega.{arith}
@@ -26,7 +26,7 @@ use Rattle.rack.specs.Sound.{pairFits, messageFits, heldFits, workFits, owes, o
 use Rattle.rack.specs.Run.{slotOf, decided, addressed, cleared, entriesIn, appliedOf}
 use Rattle.rack.specs.SoundLaws.{Sound, sound-of, of-sound}
 use Rattle.rack.specs.Owed.{owedIn, owed-in, owed-set}
-use Rattle.rack.specs.Decided.{lookedClient, lookedParty, lookedPlace, Looked, Decided, decided-fits}
+use Rattle.rack.specs.Decided.{lookedClient, lookedParty, lookedPlace, Decided, decided-fits}
 
 -- ---- stores
 
@@ -37,6 +37,7 @@ set-either P l c u d i pu pl = go (eqb i c) refl
     here : (t : Bool) → ltb c (length l) ≡ t → i ≡ c → P (getD (set l c u) i d)
     here true e q = rw (q, getD-set-same l c u d (ltb-true _ _ e)) pu
     here false e q = rw (set-out l c u (ltb-false _ _ e)) pl
+
     go : (t : Bool) → eqb i c ≡ t → P (getD (set l c u) i d)
     go true e = here (ltb c (length l)) refl (eqb-true i c e)
     go false e = rw (getD-set-other l c i u d (eqb-false i c e)) pl
@@ -113,11 +114,12 @@ stays r e p h g =
     record {
       sizes = s .sizes;
       slots = sent-fits z (addressed (p .message) (membersOf (z .replicas) (p .to))) (cleared (p .clear) (slotOf e) (r .wire))
-        (addressed-fits z (p .message) (membersOf (z .replicas) (p .to)) (d .fits .message) (members-less (z .replicas) 0 (p .to) (z .replicas) (omega arith)))
-        (cleared-fits z (p .clear) (slotOf e) (r .wire) (s .slots));
+          (addressed-fits z (p .message) (membersOf (z .replicas) (p .to)) (d .fits .message) (members-less (z .replicas) 0 (p .to) (z .replicas) (omega arith)))
+          (cleared-fits z (p .clear) (slotOf e) (r .wire) (s .slots));
       pairs = λ k x a b. set-either (λ (q : Pair). pairFits z q ≡ true) (r .pairs) (lookedPlace r e) (p .pair) freshPair (pairPlace k x) (d .fits .pair) (s .pairs k x a b);
       parties = λ i a. set-either (λ (q : Party). workFits z (q .work) ≡ true) (r .parties) (lookedClient r e) (p .party) idle i (d .fits .work) (s .parties i a);
-      entries = entries-stay r e p d }
+      entries = entries-stay r e p d;
+    }
 
 pub sound-stays : (r : Rack) (e : Event) (p : Plan) → soundOf r ≡ true → decided r e ≡ Go p → soundOf (appliedOf r e p) ≡ true
 sound-stays r e p h d = of-sound (appliedOf r e p) (stays r e p h d)

@@ -4,11 +4,10 @@ use mathlib.Core.Path.{_≡_, refl, ap, sym, _∙_}
 use mathlib.Core.Bool.{Bool, true, false, cond}
 use mathlib.Core.List.{List, [], _∷_}
 use native.Mathlib.Omega.{arith}
-use native.Mathlib.Numerals.{add-one}
 use lib.Dec.{eqb, ltb}
 use lib.ListN.{getD, drop, length, length-drop}
 use lib.Seq.{drop-cons}
-use borrow.Author.Tests.{eqb-true, eqb-false, eq-eqb, ne-eqb, ltb-true, ltb-false, lt-ltb, le-ltb}
+use borrow.Author.Tests.{eqb-true, ltb-true}
 use Rattle.rack.specs.declared.Event.{Event}
 use Rattle.rack.specs.declared.Plan.{Plan}
 use Rattle.rack.specs.declared.Outcome.{Outcome}
@@ -46,7 +45,7 @@ one done left r k a b v ws = refl
 -- an event is tried
 pub tried : (done : ℕ) (r : Rack) (n i : ℕ) (ws : List ℕ) → i < n → i < length ws / 4
     → runFrom done r (n - i) (drop (4 * i) ws)
-      ≡ turn done r (eventAt ws i) (decided r (eventAt ws i)) (λ q. runFrom (done + 1) q (n - (i + 1)) (drop (4 * (i + 1)) ws))
+    ≡ turn done r (eventAt ws i) (decided r (eventAt ws i)) (λ q. runFrom (done + 1) q (n - (i + 1)) (drop (4 * (i + 1)) ws))
 tried done r n i ws h l =
     let e : n - i ≡ suc (n - (i + 1)) = omega arith in
     let f : 4 * i + 4 ≡ 4 * (i + 1) = omega arith in
@@ -110,7 +109,7 @@ steps done r (suc left) (k ∷ a ∷ b ∷ []) = none-done done r (suc left) 0 (
 steps done r (suc left) (k ∷ a ∷ b ∷ v ∷ ws) = go (decided r (eventOf k a b v)) refl (λ q. steps (done + 1) q left ws)
   where
     go : (o : Outcome) → decided r (eventOf k a b v) ≡ o → ((q : Rack) → Stepped (done + 1) q left ws (runFrom (done + 1) q left ws))
-       → Stepped done r (suc left) (k ∷ a ∷ b ∷ v ∷ ws) (turn done r (eventOf k a b v) o (λ q. runFrom (done + 1) q left ws))
+        → Stepped done r (suc left) (k ∷ a ∷ b ∷ v ∷ ws) (turn done r (eventOf k a b v) o (λ q. runFrom (done + 1) q left ws))
     go (No n) e ih = none-done done r (suc left) n (k ∷ a ∷ b ∷ v ∷ ws)
     go (Go p) e ih =
         let x : Rack = appliedOf r (eventOf k a b v) p in
@@ -121,7 +120,8 @@ steps done r (suc left) (k ∷ a ∷ b ∷ v ∷ ws) = go (decided r (eventOf k 
           least = omega (arith, s .least);
           most = omega (arith, s .most);
           words = omega (arith, s .words, s .least);
-          same = ap (λ (n : ℕ). runFrom done r n (k ∷ a ∷ b ∷ v ∷ ws)) f ∙ went done (q .done - (done + 1)) r k a b v p ws e ∙ s .same }
+          same = ap (λ (n : ℕ). runFrom done r n (k ∷ a ∷ b ∷ v ∷ ws)) f ∙ went done (q .done - (done + 1)) r k a b v p ws e ∙ s .same;
+        }
 
 -- The number done equals the definition's steps: at most the allowance and the whole events, and running exactly so many leaves the same rack with
 -- nothing refused.
@@ -134,18 +134,28 @@ no-step : (r : Rack) (allowance n : ℕ) (ws : List ℕ) → Exact r allowance w
 unfolding runOf
 no-step r allowance n ws = record { most = omega arith; words = omega arith; same = refl }
 
--- a schedule that starts on a sound rack, with four words at least
-run-sound : (r : Rack) (n : ℕ) (ws : List ℕ) → soundOf r ≡ true → 4 ≤ length ws → runOf r n ws ≡ runFrom 0 r n ws
-unfolding runOf runFrom
-run-sound r zero ws s h = refl
-run-sound r (suc n) ws s h = rw (ne-eqb (suc n) 0 (λ e. omega arith), le-ltb (length ws) 4 h, s)
+none-allowed : (r : Rack) (ws : List ℕ) → runFrom 0 r 0 ws ≡ ranOf 0 0 r
+unfolding runFrom
+none-allowed r ws = refl
+
+-- on a sound rack the tests before the first event change nothing
+pub sound-from : (r : Rack) (n : ℕ) (ws : List ℕ) → soundOf r ≡ true → runOf r n ws ≡ runFrom 0 r n ws
+unfolding runOf
+sound-from r n ws s = go (ltb (length ws) 4) refl (eqb n 0) refl
+  where
+    go : (b : Bool) → ltb (length ws) 4 ≡ b → (a : Bool) → eqb n 0 ≡ a
+        → cond a (ranOf 0 0 r) (cond b (ranOf 0 0 r) (cond (soundOf r) (runFrom 0 r n ws) (ranOf 0 2 r))) ≡ runFrom 0 r n ws
+    go true e true q = sym (too-few 0 r n ws (ltb-true (length ws) 4 e))
+    go true e false q = sym (too-few 0 r n ws (ltb-true (length ws) 4 e))
+    go false e true q = sym (ap (λ (k : ℕ). runFrom 0 r k ws) (eqb-true n 0 q) ∙ none-allowed r ws)
+    go false e false q = rw s
 
 pub run-steps : (r : Rack) (allowance : ℕ) (ws : List ℕ) → Exact r allowance ws (runOf r allowance ws)
 unfolding runOf
 run-steps r allowance ws = go (eqb allowance 0) refl (ltb (length ws) 4) refl (soundOf r) refl
   where
     go : (a : Bool) → eqb allowance 0 ≡ a → (b : Bool) → ltb (length ws) 4 ≡ b → (c : Bool) → soundOf r ≡ c
-       → Exact r allowance ws (cond a (ranOf 0 0 r) (cond b (ranOf 0 0 r) (cond c (runFrom 0 r allowance ws) (ranOf 0 2 r))))
+        → Exact r allowance ws (cond a (ranOf 0 0 r) (cond b (ranOf 0 0 r) (cond c (runFrom 0 r allowance ws) (ranOf 0 2 r))))
     go true ea b eb c ec = no-step r allowance 0 ws
     go false ea true eb c ec = no-step r allowance 0 ws
     go false ea false eb false ec = no-step r allowance 2 ws
@@ -156,7 +166,8 @@ run-steps r allowance ws = go (eqb allowance 0) refl (ltb (length ws) 4) refl (s
         record {
           most = omega (arith, s .most);
           words = omega (arith, s .words);
-          same = run-sound r (q .done) ws ec (ltb-false (length ws) 4 eb) ∙ ap (λ (n : ℕ). runFrom 0 r n ws) (sym e) ∙ s .same }
+          same = sound-from r (q .done) ws ec ∙ ap (λ (n : ℕ). runFrom 0 r n ws) (sym e) ∙ s .same;
+        }
 
 -- ---- a schedule in two parts
 
@@ -176,8 +187,8 @@ parts-on (suc m) n done r q (k ∷ a ∷ b ∷ []) h = absurd (let z : done ≡ 
 parts-on (suc m) n done r q (k ∷ a ∷ b ∷ v ∷ ws) h = go (decided r (eventOf k a b v)) refl h (λ x. parts-on m n (done + 1) x q ws)
   where
     go : (o : Outcome) → decided r (eventOf k a b v) ≡ o → turn done r (eventOf k a b v) o (λ x. runFrom (done + 1) x m ws) ≡ ranOf (done + suc m) 0 q
-       → ((x : Rack) → runFrom (done + 1) x m ws ≡ ranOf (done + 1 + m) 0 q → runFrom (done + 1) x (m + n) ws ≡ runFrom (done + 1 + m) q n (drop (4 * m) ws))
-       → runFrom done r (suc m + n) (k ∷ a ∷ b ∷ v ∷ ws) ≡ runFrom (done + suc m) q n (drop (4 * suc m) (k ∷ a ∷ b ∷ v ∷ ws))
+        → ((x : Rack) → runFrom (done + 1) x m ws ≡ ranOf (done + 1 + m) 0 q → runFrom (done + 1) x (m + n) ws ≡ runFrom (done + 1 + m) q n (drop (4 * m) ws))
+        → runFrom done r (suc m + n) (k ∷ a ∷ b ∷ v ∷ ws) ≡ runFrom (done + suc m) q n (drop (4 * suc m) (k ∷ a ∷ b ∷ v ∷ ws))
     go (No x) e h ih = absurd (let z : done ≡ done + suc m = ap (λ (x : Ran). x .done) h in omega arith)
     go (Go p) e h ih =
         let s : suc m + n ≡ suc (m + n) = omega arith in
@@ -202,7 +213,7 @@ parts-off (suc m) n done r (k ∷ a ∷ b ∷ v ∷ ws) h =
     ap (λ (l : ℕ). runFrom done r l (k ∷ a ∷ b ∷ v ∷ ws)) s ∙ go (decided r (eventOf k a b v)) refl h (λ x. parts-off m n (done + 1) x ws)
   where
     go : (o : Outcome) → decided r (eventOf k a b v) ≡ o → turn done r (eventOf k a b v) o (λ x. runFrom (done + 1) x m ws) .done < done + suc m
-       → ((x : Rack) → runFrom (done + 1) x m ws .done < done + 1 + m → runFrom (done + 1) x (m + n) ws ≡ runFrom (done + 1) x m ws)
-       → turn done r (eventOf k a b v) o (λ x. runFrom (done + 1) x (m + n) ws) ≡ turn done r (eventOf k a b v) o (λ x. runFrom (done + 1) x m ws)
+        → ((x : Rack) → runFrom (done + 1) x m ws .done < done + 1 + m → runFrom (done + 1) x (m + n) ws ≡ runFrom (done + 1) x m ws)
+        → turn done r (eventOf k a b v) o (λ x. runFrom (done + 1) x (m + n) ws) ≡ turn done r (eventOf k a b v) o (λ x. runFrom (done + 1) x m ws)
     go (No x) e h ih = refl
     go (Go p) e h ih = ih (appliedOf r (eventOf k a b v) p) (omega arith)

@@ -50,16 +50,24 @@ none-legal = record { follows = tt; few = omega arith }
 good-legal : Legal good
 unfolding faultAfter standingAfter
 good-legal = record {
-  follows = ((omega arith, omega arith, record { sfits = omega arith }), refl,
-    (omega arith, refl, ((omega arith, omega arith), refl, ((omega arith, record { sfits = omega arith }), refl, tt))));
-  few = omega arith }
+  follows = (
+    (omega arith, omega arith, record { sfits = omega arith }),
+    refl,
+    (omega arith, refl, ((omega arith, omega arith), refl, ((omega arith, record { sfits = omega arith }), refl, tt))),
+  );
+  few = omega arith;
+}
 
 bad-legal : Legal bad
 unfolding faultAfter standingAfter
 bad-legal = record {
-  follows = ((omega arith, omega arith, record { sfits = omega arith }), refl,
-    (omega arith, refl, ((omega arith, omega arith), refl, ((omega arith, record { sfits = omega arith }), refl, tt))));
-  few = omega arith }
+  follows = (
+    (omega arith, omega arith, record { sfits = omega arith }),
+    refl,
+    (omega arith, refl, ((omega arith, omega arith), refl, ((omega arith, record { sfits = omega arith }), refl, tt))),
+  );
+  few = omega arith;
+}
 
 -- no bytes: lawful
 pub none-verdict : (v : Verdict) → Judges (takenFor []) v → v ≡ saysLawful

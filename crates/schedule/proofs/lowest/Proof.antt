@@ -1,5 +1,5 @@
 -- A set that is not empty has fewer than 16 zeros below its lowest bit.
-use mathlib.Core.Path.{_≡_, refl}
+use mathlib.Core.Path.{refl}
 use native.Mathlib.Omega.{arith}
 use borrow.Author.Needs.{needs}
 use lib.Count.{trailing-le}

@@ -1,5 +1,5 @@
 use borrow.Author.Needs.{needs}
-use mathlib.Core.Path.{_≡_, sym, _∙_}
+use mathlib.Core.Path.{sym, _∙_}
 use Rattle.rack.specs.Owed.{owed-in}
 use Rattle.schedule.proofs.owed_of.Statement.{statement}
 use Rattle.schedule.proofs.owed_of.Tie as tie

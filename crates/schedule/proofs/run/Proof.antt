@@ -1,7 +1,7 @@
 -- The three tests of the definition, in its order.
 use borrow.Author.Needs.{needs}
 use borrow.Author.Tests.{lt-ltb, le-ltb, eq-eqb, ne-eqb}
-use mathlib.Core.Path.{_≡_, sym, _∙_}
+use mathlib.Core.Path.{sym, _∙_}
 use Rattle.rack.specs.Run.{runOf}
 use Rattle.schedule.proofs.run.Statement.{statement}
 use Rattle.schedule.proofs.run.Tie as tie
@@ -32,8 +32,12 @@ go-on-requires c κs = (sym (c .before .before .sound .ensures) ∙ c .before .i
 returns-3 : tie.Need-returns-3
 unfolding runOf
 returns-3 c =
-    rw (c .go-on .ensures, ne-eqb _ _ (c .before .before .before .before .before .if1 .left), le-ltb _ _ (c .before .before .before .before .if2 .left),
-      sym (c .before .before .before .sound .ensures) ∙ c .before .before .if3 .taken)
+    rw (
+      c .go-on .ensures,
+      ne-eqb _ _ (c .before .before .before .before .before .if1 .left),
+      le-ltb _ _ (c .before .before .before .before .if2 .left),
+      sym (c .before .before .before .sound .ensures) ∙ c .before .before .if3 .taken,
+    )
 
 ran-requires-3 : tie.Need-ran-requires-3
 ran-requires-3 c κs = search needs
@@ -41,8 +45,12 @@ ran-requires-3 c κs = search needs
 returns-4 : tie.Need-returns-4
 unfolding runOf
 returns-4 c =
-    rw (c .ran3 .ensures, ne-eqb _ _ (c .before .before .before .before .if1 .left), le-ltb _ _ (c .before .before .before .if2 .left),
-      sym (c .before .before .sound .ensures) ∙ c .before .if3 .left)
+    rw (
+      c .ran3 .ensures,
+      ne-eqb _ _ (c .before .before .before .before .if1 .left),
+      le-ltb _ _ (c .before .before .before .if2 .left),
+      sym (c .before .before .sound .ensures) ∙ c .before .if3 .left,
+    )
 
 pub run-spec : {M : Type 1} → statement M
 run-spec =

@@ -1,4 +1,3 @@
-use mathlib.Core.Path.{refl}
 use Rattle.schedule.specs.Sending.{slotAfter}
 use Rattle.schedule.proofs.slot_after.Statement.{statement}
 use Rattle.schedule.proofs.slot_after.Tie as tie

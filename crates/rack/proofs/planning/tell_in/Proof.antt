@@ -1,5 +1,4 @@
 -- `rack::planning::tell_in` meets its contract.
-use mathlib.Core.Path.{sym, _∙_}
 use borrow.Author.Needs.{needs}
 use Rattle.rack.specs.Plan.{tellIn}
 use Rattle.rack.proofs.planning.tell_in.Statement.{statement}
@@ -20,36 +19,19 @@ used-up-requires-2 c κs = search needs
 enum-known-work : tie.Need-enum-known-work
 enum-known-work c = search needs
 
-has-requires : tie.Need-has-requires
-has-requires c κs = search needs
-
-used-up-requires-3 : tie.Need-used-up-requires-3
-used-up-requires-3 c κs = search needs
+tell-asking-requires : tie.Need-tell-asking-requires
+tell-asking-requires c κs = search needs
 
 returns : tie.Need-returns
 unfolding tellIn
-returns c = rw (c .used-up3 .ensures, c .before .before .before .before .before .work .given .1, sym (c .before .before .has .ensures) ∙ c .before .if1 .taken)
-
-with-requires : tie.Need-with-requires
-with-requires c κs = search needs
-
-hold-requires : tie.Need-hold-requires
-hold-requires c κs = search needs
-
-tell-counts-requires : tie.Need-tell-counts-requires
-tell-counts-requires c κs = search needs
+returns c = rw (c .used-up .ensures, c .before .enum-told .given .1)
 
 returns-2 : tie.Need-returns-2
 unfolding tellIn
-returns-2 c = rw (c .used-up .ensures, c .before .enum-told .given .1)
+returns-2 c = rw (c .used-up2 .ensures, c .before .enum-told2 .given .1)
 
 returns-3 : tie.Need-returns-3
-unfolding tellIn
-returns-3 c = rw (c .used-up2 .ensures, c .before .enum-told2 .given .1)
-
-returns-4 : tie.Need-returns-4
-unfolding tellIn
-returns-4 c = rw (c .tell-counts .ensures, c .before .hold .ensures, c .before .before .with .ensures, c .before .before .before .before .before .before .before .work .given .1, sym (c .before .before .before .before .has .ensures) ∙ c .before .before .before .if1 .left)
+returns-3 c = rw (c .tell-asking .ensures, c .before .before .work .given .1)
 
 pub tell-in-spec : {M : Type 1} → statement M
 tell-in-spec =
@@ -60,12 +42,7 @@ tell-in-spec =
     enum-told-2
     used-up-requires-2
     enum-known-work
-    has-requires
-    used-up-requires-3
+    tell-asking-requires
     returns
-    with-requires
-    hold-requires
-    tell-counts-requires
     returns-2
-    returns-3
-    returns-4)
+    returns-3)
