@@ -1,2 +1,4 @@
 -- Definitions.
 pub mod Packed
+-- Laws.
+pub mod OnlyOne

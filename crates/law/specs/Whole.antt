@@ -1,4 +1,5 @@
 -- A record without a fault is lawful exactly when each cell's part is.
+use mathlib.Core.Path.{_≡_}
 use mathlib.Core.Logic.{_↔_}
 use mathlib.Core.List.{List, [], List·Memᴰ·not-nil as no-mem}
 use Prim.Native.Nat.{ℕ, _≤_, _<_}
@@ -6,6 +7,9 @@ use native.Mathlib.Omega.{arith}
 use native.Mathlib.Decide.{decLt}
 use Rattle.record.specs.declared.Entry.{Entry}
 use Rattle.record.specs.Legal.{Legal}
+use Rattle.record.specs.Below.{Bytes}
+use Rattle.record.specs.Record.{entries, recordOf}
+use Rattle.record.specs.Trip.{reading-legal}
 use Rattle.law.specs.Operation.{Op, operations}
 use Rattle.law.specs.Order.{In, Lawful}
 use Rattle.law.specs.Part.{partOf, ofCell}
@@ -56,3 +60,7 @@ record-locality-16 es h =
     each : ((c : ℕ) → c < 16 → Lawful (operations (partOf c es))) → (c : ℕ) → Dec (c < 16) → Lawful (operations (partOf c es))
     each f c (yes b) = f c b
     each f c (no b) = past-cells es h c (omega arith)
+
+-- for every record that reads without fault
+pub read-locality : (s : List ℕ) (es : List Entry) → Bytes s → recordOf s ≡ entries es → Lawful (operations es) ↔ ((c : ℕ) → Lawful (operations (partOf c es)))
+read-locality s es bytes e = record-locality es (reading-legal s es bytes e)

@@ -1,0 +1,66 @@
+-- Each call for C has one outcome, its answer can be unpacked again, and wrong answers are ruled out.
+use Prim.Native.Nat.{ℕ, _+_, _*_, _/_, _%_, _^_, _<_}
+use mathlib.Core.Path.{_≡_, refl, sym, ap, _∙_}
+use mathlib.Core.List.{List, [], _∷_}
+use native.Mathlib.Omega.{arith}
+use lib.ListN.{getD}
+use Rattle.number.specs.Number.{numberAt, putAnswer, putBytes}
+use Rattle.number.specs.Sheet.{read-80-00, read-80}
+use Rattle.record.specs.declared.Answer.{Answer}
+use Rattle.record.specs.declared.Answer.the-variants.{All, Refused as Unread}
+use Rattle.record.specs.Record.{readOutcome, writeOutcome}
+use Rattle.verdict.specs.Verdict.{takenFor, Judges}
+use Rattle.verdict.specs.OnlyOne.{one-verdict}
+use Rattle.verdict.specs.Bench.{twelve, stale, twelve-verdict, stale-verdict}
+use Rattle.exports.specs.Packed.{packedNumber, packedPut, packedAnswer, packedVerdict, Judged}
+
+-- ---- unpacking
+
+-- bits 0 to 31, and bits 32 to 39
+pub unpacks : (k n : ℕ) → k < 256 → n < 2 ^ 32 → ((2 ^ 32 * k + n) % 2 ^ 32 ≡ n) × ((2 ^ 32 * k + n) / 2 ^ 32 % 256 ≡ k)
+unpacks k n h g = (omega arith, omega arith)
+
+-- a count and a refusal are never the same number
+pub count-apart : (n k m : ℕ) → n < 2 ^ 32 → 0 < k → packedAnswer (All n) ≡ packedAnswer (Unread k m) → ⊥
+unfolding packedAnswer
+count-apart n k m h g e = omega arith
+
+-- ---- one outcome
+
+pub one-read-number : (s : List ℕ) (at r r′ : ℕ) → r ≡ packedNumber at (numberAt s at) → r′ ≡ packedNumber at (numberAt s at) → r ≡ r′
+one-read-number s at r r′ p q = p ∙ sym q
+
+pub one-write-number : (d : List ℕ) (at n r r′ : ℕ) (e e′ : List ℕ) → (r ≡ packedPut at (putAnswer d at n)) × (e ≡ putBytes d at n)
+    → (r′ ≡ packedPut at (putAnswer d at n)) × (e′ ≡ putBytes d at n) → (r ≡ r′) × (e ≡ e′)
+one-write-number d at n r r′ e e′ p q = (p .0 ∙ sym (q .0), p .1 ∙ sym (q .1))
+
+pub one-read-record : (s d : List ℕ) (r r′ : ℕ) (e e′ : List ℕ) → (r ≡ packedAnswer (readOutcome s d .answer)) × (e ≡ readOutcome s d .lent)
+    → (r′ ≡ packedAnswer (readOutcome s d .answer)) × (e′ ≡ readOutcome s d .lent) → (r ≡ r′) × (e ≡ e′)
+one-read-record s d r r′ e e′ p q = (p .0 ∙ sym (q .0), p .1 ∙ sym (q .1))
+
+pub one-write-record : (ws d : List ℕ) (r r′ : ℕ) (e e′ : List ℕ) → (r ≡ packedAnswer (writeOutcome ws d .answer)) × (e ≡ writeOutcome ws d .lent)
+    → (r′ ≡ packedAnswer (writeOutcome ws d .answer)) × (e′ ≡ writeOutcome ws d .lent) → (r ≡ r′) × (e ≡ e′)
+one-write-record ws d r r′ e e′ p q = (p .0 ∙ sym (q .0), p .1 ∙ sym (q .1))
+
+pub one-judged : (s : List ℕ) → ((i : ℕ) → getD s i 0 < 256) → (r r′ : ℕ) → Judged s r → Judged s r′ → r ≡ r′
+one-judged s bytes r r′ (v, (j, p)) (w, (k, q)) = p ∙ ap packedVerdict (one-verdict s bytes v w j k) ∙ sym q
+
+-- ---- wrong answers
+
+-- 80 00 is refused 22, and not the number 0 in two bytes; 80 is refused 21, and not the number 0
+pub not-long-zero : (r : ℕ) → r ≡ packedNumber 0 (numberAt (0x80 ∷ 0x00 ∷ []) 0) → r ≡ 2 ^ 40 * 2 → ⊥
+unfolding packedNumber
+not-long-zero r p q = let e = sym q ∙ p ∙ ap (packedNumber 0) read-80-00 in omega arith
+
+pub not-cut-zero : (r : ℕ) → r ≡ packedNumber 0 (numberAt (0x80 ∷ []) 0) → r ≡ 0 → ⊥
+unfolding packedNumber
+not-cut-zero r p q = let e = sym q ∙ p ∙ ap (packedNumber 0) read-80 in omega arith
+
+-- the paper's twelve bytes are lawful, and with last byte 00 they aren't
+pub not-refused : (r : ℕ) → Judged twelve r → 0 < r → ⊥
+unfolding packedVerdict
+not-refused r (v, (j, p)) h = let e = p ∙ ap packedVerdict (twelve-verdict v j) in omega arith
+
+pub not-lawful : Judged stale 0 → ⊥
+unfolding packedVerdict
+not-lawful (v, (j, p)) = let e = p ∙ ap packedVerdict (stale-verdict v j) in omega arith
