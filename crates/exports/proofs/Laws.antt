@@ -10,7 +10,7 @@ use Rattle.number.specs.Number.{numberBytes, numberAt, putAnswer}
 use Rattle.number.specs.Laws.{length-few, put-fits, put-refused}
 use Rattle.number.specs.Trip.{written-read}
 use Rattle.number.specs.declared.Number.the-variants.{Is}
-use Rattle.number.specs.declared.Put.the-variants.{Next, NoRoom}
+use Rattle.number.specs.declared.Put.the-variants.{Next}
 use Rattle.record.specs.Record.{Held, entries, fault, recordOf, readOutcome, writeOutcome}
 use Rattle.record.specs.Below.{Bytes}
 use Rattle.record.specs.Trip.{reading-legal}

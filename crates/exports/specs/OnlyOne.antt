@@ -1,15 +1,13 @@
 -- Each call for C has one outcome, its answer can be unpacked again, and wrong answers are ruled out.
 use Prim.Native.Nat.{ℕ, _+_, _*_, _/_, _%_, _^_, _<_}
-use mathlib.Core.Path.{_≡_, refl, sym, ap, _∙_}
+use mathlib.Core.Path.{_≡_, sym, ap, _∙_}
 use mathlib.Core.List.{List, [], _∷_}
 use native.Mathlib.Omega.{arith}
 use lib.ListN.{getD}
 use Rattle.number.specs.Number.{numberAt, putAnswer, putBytes}
 use Rattle.number.specs.Sheet.{read-80-00, read-80}
-use Rattle.record.specs.declared.Answer.{Answer}
 use Rattle.record.specs.declared.Answer.the-variants.{All, Refused as Unread}
 use Rattle.record.specs.Record.{readOutcome, writeOutcome}
-use Rattle.verdict.specs.Verdict.{takenFor, Judges}
 use Rattle.verdict.specs.OnlyOne.{one-verdict}
 use Rattle.verdict.specs.Bench.{twelve, stale, twelve-verdict, stale-verdict}
 use Rattle.exports.specs.Packed.{packedNumber, packedPut, packedAnswer, packedVerdict, Judged}

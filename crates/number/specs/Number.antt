@@ -1,7 +1,7 @@
 -- Numbers in groups of seven bits: how one is written, and what reading one gives. The paper: "The record and its bytes".
 use Prim.Native.Nat.{ℕ, zero, suc, _+_, _*_, _/_, _%_}
-use mathlib.Core.List.{List, [], _∷_, _++_}
-use mathlib.Core.Bool.{Bool, true, false, cond, _&&_}
+use mathlib.Core.List.{List, [], _∷_}
+use mathlib.Core.Bool.{Bool, cond, _&&_}
 use mathlib.Core.Path.{_≡_}
 use lib.ListN.{length, drop}
 use lib.Seq.{sets}

@@ -1,13 +1,13 @@
 -- The code's sets have sixteen bits: what the definitions say of a replica number below sixteen, and of one that is not.
-use Prim.Native.Nat.{ℕ, _+_, _-_, _*_, _/_, _%_, _^_, _≤_, _<_, min}
-use mathlib.Core.Path.{_≡_, refl, ap, sym, _∙_}
-use mathlib.Core.Bool.{Bool, true, false}
+use Prim.Native.Nat.{ℕ, _-_, _*_, _%_, _^_, _≤_, _<_, min}
+use mathlib.Core.Path.{_≡_, sym, _∙_}
+use mathlib.Core.Bool.{true, false}
 use native.Mathlib.Omega.{arith}
 use native.Mathlib.Nat.{one-mul}
 use lib.Bits.{bitOr}
 use lib.Dec.{ltb}
 use lib.Pow.{shl-exact, pow-pos, pow-mono}
-use borrow.Author.Tests.{lt-ltb, le-ltb}
+use borrow.Author.Tests.{lt-ltb}
 use Rattle.quorum.specs.Sets.{setBits, hasReplica, withReplica, everyReplica, within, withoutReplica}
 use Rattle.quorum.specs.Laws.{has-beyond, has-below, with-beyond, bit-at-most}
 

@@ -1,13 +1,13 @@
 -- A set's bits one by one, lowest first: those of a union, of a meet, of one replica, of every replica and of what is left.
 use Prim.Native.Nat.{ℕ, zero, suc, _+_, _-_, _*_, _/_, _%_, _^_, _≤_, _<_, min, max}
 use mathlib.Core.Path.{_≡_, refl, ap, sym, _∙_}
-use mathlib.Core.Bool.{Bool, true, false}
+use mathlib.Core.Bool.{true, false}
 use native.Mathlib.Omega.{arith}
 use native.Mathlib.Decide.{ℕ-discrete}
 use native.Mathlib.Nat.{pow-suc}
 use lib.Arith.{half-le, le-zero}
-use lib.Bits.{bitOr, bitAnd, or-shr, and-shr, or-step, and-step, or-mod, and-mod, or-add-and, and-zero-r, and-le-l, or-lt}
-use lib.Count.{ones, ones-step, ones-le, ones-cat}
+use lib.Bits.{bitOr, bitAnd, or-shr, and-shr, or-step, and-step, or-mod, and-mod, or-add-and, and-zero-r, and-le-l}
+use lib.Count.{ones, ones-step, ones-cat}
 use lib.Dec.{eqb}
 use lib.Pow.{pow-pos, shr-shr}
 use borrow.Author.Tests.{eq-eqb, ne-eqb, eqb-true, eqb-false}

@@ -1,5 +1,5 @@
 -- What holds of sets of replicas, for any number of replicas and any number of bits.
-use Prim.Native.Nat.{ℕ, zero, suc, _+_, _-_, _*_, _/_, _%_, _^_, _≤_, _<_, min, max}
+use Prim.Native.Nat.{ℕ, _+_, _-_, _*_, _/_, _^_, _≤_, _<_, min}
 use mathlib.Core.Path.{_≡_, refl, ap, sym, _∙_}
 use mathlib.Core.Bool.{Bool, true, false, cond, not, _&&_, _||_}
 use mathlib.Core.Logic.{_⊎_, inl, inr}
@@ -8,10 +8,10 @@ use native.Mathlib.Nat.{mod-eq-of-lt}
 use lib.Bits.{bitOr, bitAnd, or-add-and, and-comm, and-mask, and-le-l, or-lt}
 use lib.Count.{ones, ones-le, ones-ones}
 use lib.Dec.{ltb, eqb}
-use lib.Pow.{pow-pos, pow-lt, pow-mono, ones-lt}
-use borrow.Author.Tests.{lt-ltb, le-ltb, ltb-true, ltb-false, eq-eqb, ne-eqb, eqb-true, eqb-false}
+use lib.Pow.{pow-pos, pow-lt, ones-lt}
+use borrow.Author.Tests.{lt-ltb, le-ltb, ltb-true, ltb-false, eq-eqb, eqb-true, eqb-false}
 use Rattle.quorum.specs.Sets.{setBits, hasReplica, withReplica, countOf, majority, asksEnough, keepsEnough, everyReplica, others, within, withoutReplica}
-use Rattle.quorum.specs.Bits.{bit, bit-most, bit-none, has-is, has-one, has-zero, one-has, zero-has, or-bit, and-bit, left-bit, pow-same, pow-other, and-fresh, and-there, all-below, bit-below, same-bits, ones-both, ones-left, ones-one, some-bit}
+use Rattle.quorum.specs.Bits.{bit, bit-most, bit-none, has-one, has-zero, one-has, zero-has, or-bit, and-bit, left-bit, pow-same, pow-other, and-fresh, and-there, all-below, bit-below, same-bits, ones-both, ones-left, ones-one, some-bit}
 
 -- the test of a set of n replicas, and what it tells
 pub within-below : (n s : ℕ) → within n s ≡ true → s < 2 ^ n

@@ -1,17 +1,17 @@
 -- A set's members in replica order: as many as are counted, each once, and just those that the set has.
-use Prim.Native.Nat.{ℕ, zero, suc, _+_, _-_, _*_, _/_, _%_, _^_, _≤_, _<_}
+use Prim.Native.Nat.{ℕ, zero, suc, _+_, _-_, _/_, _^_, _≤_, _<_}
 use mathlib.Core.Path.{_≡_, refl, ap, sym, _∙_}
 use mathlib.Core.Bool.{Bool, true, false}
-use mathlib.Core.Logic.{_⊎_, inl, inr, ⊎-elim}
+use mathlib.Core.Logic.{_⊎_, ⊎-elim}
 use mathlib.Core.List.{List, [], _∷_, List·Memᴰ, List·Memᴰ·head as here, List·Memᴰ·tail as there, List·Memᴰ·cases-cons as mem-cons, List·Memᴰ·not-nil as mem-nil}
 use native.Mathlib.Omega.{arith}
 use lib.ListN.{length}
 use lib.Count.{ones, ones-step}
-use lib.Dec.{eqb, ltb}
+use lib.Dec.{eqb}
 use lib.Pow.{shr-shr, shr-lt}
 use borrow.Author.Tests.{eqb-true, eqb-false, lt-ltb}
 use Rattle.quorum.specs.Sets.{setBits, hasReplica, countOf, everyReplica, keepIf, membersFrom, membersOf}
-use Rattle.quorum.specs.Bits.{bit, bit-is, has-one, has-zero}
+use Rattle.quorum.specs.Bits.{bit-is, has-one, has-zero}
 use Rattle.quorum.specs.Laws.{has-below, has-every}
 
 -- ---- length

@@ -1,7 +1,7 @@
 -- No other answer fits a call: two that both meet its contract are the same, a set is known by its members, and wrong answers do not meet it.
-use Prim.Native.Nat.{ℕ, _≤_, _<_, _^_}
+use Prim.Native.Nat.{ℕ, _≤_, _<_}
 use mathlib.Core.Bool.{Bool, true, false, not, _&&_, _||_}
-use mathlib.Core.Path.{_≡_, ap, _∙_, sym}
+use mathlib.Core.Path.{_≡_, _∙_, sym}
 use native.Mathlib.Omega.{arith}
 use lib.Dec.{eqb, ltb}
 use Rattle.quorum.specs.Sets.{setBits, hasReplica, withReplica, asksEnough, keepsEnough, everyReplica, others, within}

@@ -1,5 +1,4 @@
 -- The paper's majorities: 1 of 1, 2 of 2, 2 of 3, 3 of 4, 8 of 15; and the sets of the bench's sizes.
-use Prim.Native.Nat.{ℕ}
 use mathlib.Core.List.{[], _∷_}
 use mathlib.Core.Bool.{true, false}
 use mathlib.Core.Path.{_≡_, refl}

@@ -1,15 +1,13 @@
 -- What an event of a sound rack looks at is there, and what is decided on it stays in the rack.
-use Prim.Native.Nat.{ℕ, _+_, _*_, _≤_, _<_}
-use mathlib.Core.Path.{_≡_, refl, ap, sym, _∙_, subst}
-use mathlib.Core.Bool.{Bool, true, false, cond, _&&_}
+use Prim.Native.Nat.{ℕ, _+_, _≤_, _<_}
+use mathlib.Core.Path.{_≡_, refl, subst}
+use mathlib.Core.Bool.{Bool, true, false, cond}
 use native.Mathlib.Omega.{arith}
 use lib.Dec.{ltb}
 use lib.ListN.{getD}
 use lib.Count.{ones}
 use borrow.Author.Tests.{ltb-true, ltb-false}
-use Rattle.record.specs.declared.Entry.{Entry}
 use Rattle.record.specs.Record.{entryLimit}
-use Rattle.rack.specs.declared.Message.{Message}
 use Rattle.rack.specs.declared.Held.{Held}
 use Rattle.rack.specs.declared.Held.the-variants.{Empty, Full}
 use Rattle.rack.specs.declared.Party.{Party}
@@ -26,11 +24,11 @@ use Rattle.rack.specs.declared.Outcome.the-variants.{No, Go}
 use Rattle.rack.specs.Stamp.{freshPair}
 use Rattle.rack.specs.Plan.{Sight, planOf}
 use Rattle.rack.specs.Sight.{sightOf}
-use Rattle.rack.specs.Places.{slotLimit, partyAt, pairAt, heldAt, roomOf}
+use Rattle.rack.specs.Places.{slotLimit, partyAt, heldAt, roomOf}
 use Rattle.rack.specs.Sound.{pairFits, heldFits, workFits, owedBy, owed, soundOf}
 use Rattle.rack.specs.Run.{inRack, slotOf, clientIn, placeIn, clientOf, noted, freed, checked, decided, entriesIn}
-use Rattle.rack.specs.Tests.{never, and-left}
-use Rattle.rack.specs.SoundLaws.{Sized, Named, named, Sound, sound-of}
+use Rattle.rack.specs.Tests.{and-left}
+use Rattle.rack.specs.SoundLaws.{Sized, named, Sound, sound-of}
 use Rattle.rack.specs.PlanLaws.{keptFor, PlanFits, OutcomeFits, plan-fits}
 
 -- ---- what an event looks at

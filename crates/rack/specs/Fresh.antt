@@ -1,22 +1,18 @@
 -- The fresh rack of permitted sizes is sound, and so is what the maker gives.
-use Prim.Native.Nat.{ℕ, zero, suc, _+_, _*_, _≤_, _<_}
-use mathlib.Core.Path.{_≡_, refl, ap, sym, _∙_}
+use Prim.Native.Nat.{ℕ, zero, suc, _≤_, _<_}
+use mathlib.Core.Path.{_≡_, refl, ap}
 use mathlib.Core.Bool.{Bool, true, false, cond}
 use native.Mathlib.Omega.{arith}
-use lib.ListN.{getD, replicate, getD-replicate}
+use lib.ListN.{getD-replicate}
 use borrow.Author.Tests.{lt-ltb}
-use Rattle.record.specs.Record.{entryLimit}
-use Rattle.rack.specs.declared.Held.the-variants.{Empty}
-use Rattle.rack.specs.declared.Work.the-variants.{Idle}
 use Rattle.rack.specs.declared.Sizes.{Sizes}
 use Rattle.rack.specs.declared.Party.{Party}
-use Rattle.rack.specs.declared.Rack.{Rack}
 use Rattle.rack.specs.declared.Made.{Made}
 use Rattle.rack.specs.Stamp.{freshPair}
 use Rattle.rack.specs.Places.{slotLimit, empty, idle, partyAt, pairAt, pairPlace, heldAt}
 use Rattle.rack.specs.Sound.{sizesFit, pairFits, heldFits, workFits, owes, owedBy, owedBelow, owed, soundOf}
 use Rattle.rack.specs.Run.{freshRack, madeOf}
-use Rattle.rack.specs.SoundLaws.{Sized, sized, Sound, of-sound}
+use Rattle.rack.specs.SoundLaws.{Sized, sized, of-sound}
 
 -- what the maker gives, by its test
 abbrev madeIf : Bool → ℕ → ℕ → ℕ → Made

@@ -12,7 +12,7 @@ use Rattle.rack.specs.declared.Work.{Work}
 use Rattle.rack.specs.declared.Work.the-variants.{Idle, Asking, Keeping}
 use Rattle.rack.specs.declared.Party.{Party}
 use Rattle.rack.specs.declared.Rack.{Rack}
-use Rattle.rack.specs.Places.{idle, partyAt}
+use Rattle.rack.specs.Places.{idle}
 use Rattle.rack.specs.Sound.{owes, owedBy, owedBelow, owed}
 
 -- what the first n of some clients owe

@@ -4,8 +4,6 @@ use mathlib.Core.Bool.{Bool, true, false}
 use mathlib.Core.List.{List, [], _∷_}
 use lib.ListN.{getD, set}
 use Rattle.slots.specs.Free.{countFree, firstFree}
-use Rattle.record.specs.declared.Replica.{Replica}
-use Rattle.record.specs.declared.Entry.{Entry}
 use Rattle.rack.specs.declared.Pair.{Pair}
 use Rattle.rack.specs.declared.Message.{Message}
 use Rattle.rack.specs.declared.Held.{Held}

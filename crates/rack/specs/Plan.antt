@@ -10,7 +10,6 @@ use Rattle.record.specs.declared.Cell.{Cell}
 use Rattle.record.specs.declared.Entry.{Entry}
 use Rattle.record.specs.declared.Entry.the-variants.{ReadAsked, WriteAsked, Told, Done}
 use Rattle.quorum.specs.Sets.{hasReplica, withReplica, asksEnough, keepsEnough, withoutReplica, everyReplica, others}
-use Rattle.rack.specs.declared.Stamp.{Stamp}
 use Rattle.rack.specs.declared.Pair.{Pair}
 use Rattle.rack.specs.declared.Body.{Body}
 use Rattle.rack.specs.declared.Body.the-variants.{Ask, Tell, Keep, Kept}
@@ -26,7 +25,6 @@ use Rattle.rack.specs.declared.Event.{Event}
 use Rattle.rack.specs.declared.Event.the-variants.{StartRead, StartWrite, Deliver, Lose, Copy, Resend, Stop, Off, On, Unknown}
 use Rattle.rack.specs.declared.Note.{Note}
 use Rattle.rack.specs.declared.Note.the-variants.{Nothing, Asked, Ended}
-use Rattle.rack.specs.declared.Plan.{Plan}
 use Rattle.rack.specs.declared.Outcome.{Outcome}
 use Rattle.rack.specs.declared.Outcome.the-variants.{No, Go}
 use Rattle.rack.specs.Stamp.{freshPair, raised}

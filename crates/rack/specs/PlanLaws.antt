@@ -1,21 +1,18 @@
 -- Each plan stays in the rack: what it leaves of a client and of a pair fits, what it sends fits and goes to replicas that are there, and the answers
 -- that it owes have their place in the record.
-use Prim.Native.Nat.{ℕ, zero, suc, _+_, _*_, _^_, _≤_, _<_}
-use mathlib.Core.Path.{_≡_, refl, ap, sym, _∙_}
-use mathlib.Core.Bool.{Bool, true, false, cond, not, _&&_, _||_}
+use Prim.Native.Nat.{ℕ, _+_, _≤_, _<_}
+use mathlib.Core.Path.{_≡_, refl}
+use mathlib.Core.Bool.{Bool, true, false, cond, not}
 use mathlib.Core.Logic.{_⊎_, inl, inr, ⊎-elim}
 use native.Mathlib.Omega.{arith}
-use lib.Dec.{ltb, leb, eqb}
+use lib.Dec.{ltb, eqb}
 use lib.IntN.{ℤ}
-use borrow.Author.Tests.{lt-ltb, ltb-true, ltb-false, eqb-true, eqb-false, not-true}
+use borrow.Author.Tests.{lt-ltb, ltb-true, eqb-false, not-true}
 use Rattle.record.specs.declared.Client.{Client}
-use Rattle.record.specs.declared.Replica.{Replica}
 use Rattle.record.specs.declared.Cell.{Cell}
 use Rattle.record.specs.declared.Entry.{Entry}
-use Rattle.record.specs.declared.Entry.the-variants.{ReadAsked, WriteAsked}
 use Rattle.quorum.specs.Sets.{setBits, hasReplica, withReplica, asksEnough, keepsEnough, everyReplica, others, within}
 use Rattle.quorum.specs.Laws.{within-below, below-within, with-below, none-asks, none-keeps, none-within, every-below, others-below}
-use Rattle.rack.specs.declared.Stamp.{Stamp}
 use Rattle.rack.specs.declared.Pair.{Pair}
 use Rattle.rack.specs.declared.Body.{Body}
 use Rattle.rack.specs.declared.Body.the-variants.{Ask, Tell, Keep, Kept}
@@ -36,13 +33,13 @@ use Rattle.rack.specs.declared.Plan.{Plan}
 use Rattle.rack.specs.declared.Outcome.{Outcome}
 use Rattle.rack.specs.declared.Outcome.the-variants.{No, Go}
 use Rattle.rack.specs.Stamp.{stampLess, freshPair, raised}
-use Rattle.rack.specs.Plan.{Sight, messageOf, partyAt, planned, usedUp, answered, started, startIn, startOf, askOf, keepOf, current, keepsOf, written, phaseEnds, holds, tellCounts, tellIn, tellOf, lastEntry, keptCounts, keptIn, keptOf, deliverIn, deliverOf, copyOf, resendIn, resendOf, noMessage, stopOf, powered, offOf, onOf, ofSlot, planOf}
+use Rattle.rack.specs.Plan.{Sight, messageOf, planned, usedUp, answered, started, startIn, startOf, askOf, keepOf, current, keepsOf, written, phaseEnds, holds, tellCounts, tellIn, tellOf, keptCounts, keptIn, keptOf, deliverIn, deliverOf, copyOf, resendIn, resendOf, stopOf, powered, offOf, onOf, ofSlot, planOf}
 use Rattle.rack.specs.Sight.{sightOf}
-use Rattle.rack.specs.Places.{slotLimit, isEmpty}
+use Rattle.rack.specs.Places.{isEmpty}
 use Rattle.rack.specs.Sound.{pairFits, bodyFits, messageFits, heldFits, workFits, owes, owedBy}
 use Rattle.rack.specs.Run.{inRack, entriesIn}
 use Rattle.rack.specs.Tests.{never, and-left, and-right}
-use Rattle.rack.specs.SoundLaws.{Sized, Named, named, message-fits, AskOpen, ask-open, ask-fits, KeepOpen, keep-open, keep-fits}
+use Rattle.rack.specs.SoundLaws.{Sized, Named, named, message-fits, ask-open, ask-fits, keep-open, keep-fits}
 
 -- places of the record that 11 has kept for an operation that starts: its entry and its answer
 abbrev pub keptFor : Note → ℕ

@@ -1,11 +1,10 @@
 -- The refusals that an event can get: 3 to 10 and 12 from its plan, 11 and 13 from what every plan has to pass.
-use Prim.Native.Nat.{ℕ, _+_, _≤_, _<_}
-use mathlib.Core.Path.{_≡_, refl, ap, sym, _∙_, subst}
+use Prim.Native.Nat.{ℕ, _+_, _≤_}
+use mathlib.Core.Path.{_≡_, refl, subst}
 use mathlib.Core.Bool.{Bool, true, false, cond}
 use mathlib.Core.Logic.{_⊎_, inl, inr, ⊎-elim}
 use native.Mathlib.Omega.{arith}
 use lib.Dec.{ltb, eqb}
-use lib.ListN.{getD}
 use lib.Count.{ones}
 use Rattle.record.specs.declared.Client.{Client}
 use Rattle.record.specs.declared.Cell.{Cell}
@@ -30,11 +29,10 @@ use Rattle.rack.specs.declared.Note.the-variants.{Nothing, Asked, Ended}
 use Rattle.rack.specs.declared.Plan.{Plan}
 use Rattle.rack.specs.declared.Outcome.{Outcome}
 use Rattle.rack.specs.declared.Outcome.the-variants.{No, Go}
-use Rattle.rack.specs.Stamp.{freshPair}
 use Rattle.rack.specs.Plan.{Sight, started, startIn, startOf, askOf, keepOf, current, keepsOf, phaseEnds, holds, tellCounts, tellIn, tellOf, keptCounts, keptIn, keptOf, deliverIn, deliverOf, copyOf, resendIn, resendOf, stopOf, powered, offOf, onOf, ofSlot, planOf}
-use Rattle.rack.specs.Places.{heldAt, roomOf}
+use Rattle.rack.specs.Places.{roomOf}
 use Rattle.rack.specs.Sound.{owed}
-use Rattle.rack.specs.Run.{inRack, slotOf, placeIn, clientOf, noted, freed, checked, decided}
+use Rattle.rack.specs.Run.{inRack, noted, freed, checked, decided}
 use Rattle.rack.specs.Decided.{lookedHeld, lookedParty, lookedPair}
 use Rattle.rack.specs.Sight.{sightOf}
 

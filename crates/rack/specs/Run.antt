@@ -1,20 +1,14 @@
 -- One event on a rack, and a schedule with an allowance. The paper: "What each event does", "When the rack says no".
-use Prim.Native.Nat.{ℕ, zero, suc, _+_, _*_}
+use Prim.Native.Nat.{ℕ, zero, suc, _+_}
 use mathlib.Core.Bool.{Bool, true, false, cond, _&&_}
 use mathlib.Core.List.{List, [], _∷_}
 use lib.Dec.{ltb, eqb}
-use lib.IntN.{ℤ}
 use lib.ListN.{getD, set, length, replicate}
 use lib.Count.{ones}
 use Rattle.number.specs.Value.{signedOf}
-use Rattle.record.specs.declared.Client.{Client}
-use Rattle.record.specs.declared.Replica.{Replica}
-use Rattle.record.specs.declared.Cell.{Cell}
-use Rattle.record.specs.declared.Entry.{Entry}
 use Rattle.record.specs.declared.Entry.the-variants.{Done}
 use Rattle.record.specs.Record.{entryLimit}
 use Rattle.quorum.specs.Sets.{everyReplica, membersOf}
-use Rattle.rack.specs.declared.Pair.{Pair}
 use Rattle.rack.specs.declared.Message.{Message}
 use Rattle.rack.specs.declared.Held.{Held}
 use Rattle.rack.specs.declared.Held.the-variants.{Empty, Full}
@@ -32,7 +26,7 @@ use Rattle.rack.specs.declared.Outcome.the-variants.{No, Go}
 use Rattle.rack.specs.declared.Made.{Made}
 use Rattle.rack.specs.declared.Ran.{Ran}
 use Rattle.rack.specs.Stamp.{freshPair}
-use Rattle.rack.specs.Plan.{Sight, messageOf, planOf}
+use Rattle.rack.specs.Plan.{messageOf, planOf}
 use Rattle.rack.specs.Places.{slotLimit, empty, idle, partyAt, pairPlace, heldAt, roomOf, sentOf}
 use Rattle.rack.specs.Sound.{sizesFit, owed, soundOf}
 

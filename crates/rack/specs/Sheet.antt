@@ -2,7 +2,6 @@
 use Prim.Native.Nat.{ℕ, zero, suc, _+_}
 use mathlib.Core.Path.{_≡_, refl}
 use mathlib.Core.List.{List, [], _∷_, _++_}
-use mathlib.Core.Bool.{Bool, true, false}
 use lib.IntN.{pos}
 use lib.Count.{ones}
 use Rattle.number.specs.Value.{signedOf}
@@ -23,7 +22,7 @@ use Rattle.rack.specs.declared.Outcome.the-variants.{No, Go}
 use Rattle.rack.specs.declared.Ran.{Ran}
 use Rattle.rack.specs.Stamp.{stampLess, raised, freshPair}
 use Rattle.rack.specs.Plan.{started, startIn, startOf, askOf, keepOf, current, keepsOf, phaseEnds, holds, tellCounts, tellIn, tellOf, lastEntry, keptCounts, keptIn, keptOf, deliverIn, deliverOf, ofSlot, planOf, messageOf}
-use Rattle.rack.specs.Places.{slotLimit, partyAt, pairAt, heldAt, freeAt, roomOf, sentOf}
+use Rattle.rack.specs.Places.{partyAt, pairAt, heldAt, freeAt, roomOf, sentOf}
 use Rattle.rack.specs.Sound.{allBelow, sizesFit, pairFits, bodyFits, messageFits, heldFits, workFits, owes, owedBy, owedBelow, owed, wireFits, pairsFit, partiesFit, recordFits, soundOf}
 use Rattle.rack.specs.Run.{freshRack, byte, eventOf, inRack, slotOf, clientIn, placeIn, clientOf, noted, freed, checked, decided, addressed, cleared, recorded, entriesIn, appliedOf, turn, runFrom, runOf}
 

@@ -1,10 +1,7 @@
 -- A sound rack. The paper: "A state is unsound exactly when", part by part.
-use Prim.Native.Nat.{ℕ, zero, suc, _+_, _*_}
-use mathlib.Core.Bool.{Bool, true, false, cond, not, _&&_, _||_}
-use mathlib.Core.List.{List}
+use Prim.Native.Nat.{ℕ, zero, suc, _+_}
+use mathlib.Core.Bool.{Bool, true, cond, not, _&&_, _||_}
 use lib.Dec.{ltb, leb, eqb}
-use lib.ListN.{getD}
-use Rattle.record.specs.declared.Cell.{Cell}
 use Rattle.record.specs.Record.{entryLimit}
 use Rattle.quorum.specs.Sets.{within, asksEnough, keepsEnough}
 use Rattle.rack.specs.declared.Pair.{Pair}
@@ -13,13 +10,11 @@ use Rattle.rack.specs.declared.Body.the-variants.{Ask, Tell, Keep, Kept}
 use Rattle.rack.specs.declared.Message.{Message}
 use Rattle.rack.specs.declared.Held.{Held}
 use Rattle.rack.specs.declared.Held.the-variants.{Empty, Full}
-use Rattle.rack.specs.declared.Slot.{Slot}
 use Rattle.rack.specs.declared.Work.{Work}
 use Rattle.rack.specs.declared.Work.the-variants.{Idle, Asking, Keeping}
 use Rattle.rack.specs.declared.Party.{Party}
 use Rattle.rack.specs.declared.Sizes.{Sizes}
 use Rattle.rack.specs.declared.Rack.{Rack}
-use Rattle.rack.specs.Stamp.{freshPair}
 use Rattle.rack.specs.Places.{slotLimit, partyAt, pairAt, heldAt}
 
 -- each number below n

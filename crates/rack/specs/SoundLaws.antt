@@ -1,30 +1,23 @@
 -- A sound rack part by part: what each test says, and back.
-use Prim.Native.Nat.{ℕ, zero, suc, _+_, _*_, _^_, _≤_, _<_}
-use mathlib.Core.Path.{_≡_, refl, ap, sym, _∙_}
-use mathlib.Core.Bool.{Bool, true, false, cond, not, _&&_, _||_}
+use Prim.Native.Nat.{ℕ, _+_, _≤_, _<_}
+use mathlib.Core.Path.{_≡_, ap}
+use mathlib.Core.Bool.{Bool, true, false, not, _&&_, _||_}
 use mathlib.Core.Logic.{_⊎_, inl, inr, ⊎-elim}
-use native.Mathlib.Omega.{arith}
 use lib.Dec.{ltb, leb, eqb}
-use lib.ListN.{getD, set, length}
-use lib.Seq.{getD-set-same, getD-set-other}
-use borrow.Author.Tests.{lt-ltb, ltb-true, le-leb, leb-true, eqb-true, eqb-false, eq-eqb, not-true}
+use lib.ListN.{set}
+use borrow.Author.Tests.{lt-ltb, ltb-true, le-leb, leb-true, eqb-true, eq-eqb, not-true}
 use Rattle.record.specs.Record.{entryLimit}
 use Rattle.record.specs.declared.Cell.{Cell}
 use Rattle.quorum.specs.Sets.{within, asksEnough, keepsEnough}
 use Rattle.rack.specs.declared.Pair.{Pair}
-use Rattle.rack.specs.declared.Body.{Body}
 use Rattle.rack.specs.declared.Message.{Message}
-use Rattle.rack.specs.declared.Held.{Held}
-use Rattle.rack.specs.declared.Held.the-variants.{Empty, Full}
 use Rattle.rack.specs.declared.Goal.{Goal}
-use Rattle.rack.specs.declared.Work.{Work}
-use Rattle.rack.specs.declared.Work.the-variants.{Idle, Asking, Keeping}
-use Rattle.rack.specs.declared.Party.{Party}
+use Rattle.rack.specs.declared.Work.the-variants.{Asking, Keeping}
 use Rattle.rack.specs.declared.Sizes.{Sizes}
 use Rattle.rack.specs.declared.Rack.{Rack}
-use Rattle.rack.specs.Places.{slotLimit, idle, partyAt, pairAt, heldAt}
-use Rattle.rack.specs.Sound.{allBelow, sizesFit, pairFits, bodyFits, messageFits, heldFits, workFits, owes, owedBy, owedBelow, owed, wireFits, pairsFit, partiesFit, recordFits, soundOf}
-use Rattle.rack.specs.Tests.{never, and-left, and-right, and-true, or-cases, or-left, or-right, all-at, all-of}
+use Rattle.rack.specs.Places.{slotLimit, partyAt, pairAt, heldAt}
+use Rattle.rack.specs.Sound.{allBelow, sizesFit, pairFits, bodyFits, messageFits, heldFits, workFits, owed, wireFits, pairsFit, partiesFit, recordFits, soundOf}
+use Rattle.rack.specs.Tests.{and-left, and-right, and-true, or-cases, or-left, or-right, all-at, all-of}
 
 -- ---- sizes
 

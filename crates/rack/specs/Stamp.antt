@@ -1,5 +1,4 @@
 -- Stamps and pairs. The paper: "The rack", and *Keep* of "What each event does".
-use Prim.Native.Nat.{ℕ}
 use mathlib.Core.Bool.{Bool, cond, _||_, _&&_}
 use lib.Dec.{ltb, eqb}
 use lib.IntN.{pos}

@@ -8,8 +8,6 @@ use Rattle.number.specs.Number.{numberBytes, numberAt}
 use Rattle.number.specs.Value.{alternatingOf, signedOf}
 use Rattle.number.specs.declared.Number.{Number}
 use Rattle.number.specs.declared.Number.the-variants.{Is, Refused}
-use Rattle.record.specs.declared.Client.{Client}
-use Rattle.record.specs.declared.Cell.{Cell}
 use Rattle.record.specs.declared.Entry.{Entry}
 use Rattle.record.specs.declared.Entry.the-variants.{ReadAsked, WriteAsked, Told, Done}
 use Rattle.record.specs.declared.Found.{Found}

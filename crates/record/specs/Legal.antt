@@ -1,6 +1,6 @@
 -- A record that has no fault: its entries are in range, and each may follow those before it. Reading gives such records only, and the
 -- writer takes them all (specs/Trip.antt).
-use Prim.Native.Nat.{ℕ, _≤_}
+use Prim.Native.Nat.{_≤_}
 use mathlib.Core.Path.{_≡_}
 use mathlib.Core.List.{List, [], _∷_}
 use lib.ListN.{length}

@@ -2,15 +2,14 @@
 use Prim.Native.Nat.{ℕ, _+_, _*_, _/_, _≤_, _<_}
 use mathlib.Core.List.{List}
 use lib.ListN.{length, getD}
-use mathlib.Core.Path.{_≡_, refl, sym, ap, _∙_}
+use mathlib.Core.Path.{_≡_}
 use mathlib.Core.Bool.{Bool, true, false, cond, _||_, _&&_}
 use native.Mathlib.Omega.{arith}
-use lib.Dec.{ltb, leb, eqb}
+use lib.Dec.{ltb, leb}
 use borrow.Author.Tests.{lt-ltb, le-ltb, le-leb, lt-leb}
 use Rattle.number.specs.Value.{signedOf}
 use Rattle.record.specs.declared.Entry.{Entry}
 use Rattle.record.specs.declared.Entry.the-variants.{ReadAsked, WriteAsked, Told, Done}
-use Rattle.record.specs.declared.Found.{Found}
 use Rattle.record.specs.declared.Found.the-variants.{At, Fault}
 use Rattle.record.specs.Entry.{entryOf, rowFound, rowAt}
 

@@ -1,22 +1,20 @@
 -- The second pass of the reader and of the writer: each entry's numbers are stored after those of the entries before it.
-use Prim.Native.Nat.{ℕ, zero, suc, _+_, _*_, _-_, _≤_, _<_}
-use mathlib.Core.Path.{_≡_, refl, sym, ap, ap₂, _∙_}
+use Prim.Native.Nat.{ℕ, _+_, _-_, _≤_, _<_}
+use mathlib.Core.Path.{_≡_, sym, ap, _∙_}
 use mathlib.Core.List.{List, [], _∷_, _++_}
-use mathlib.Core.Bool.{Bool, true, false, cond}
+use mathlib.Core.Bool.{Bool, true, false}
 use native.Mathlib.Omega.{arith}
 use lib.ListN.{length, length-append, drop}
 use lib.Seq.{sets, length-sets}
-use lib.Dec.{ltb}
 use borrow.Author.Tests.{le-ltb, lt-ltb}
 use Rattle.record.specs.declared.Entry.{Entry}
 use Rattle.record.specs.declared.Found.{Found}
-use Rattle.record.specs.declared.Found.the-variants.{At, Fault}
+use Rattle.record.specs.declared.Found.the-variants.{At}
 use Rattle.record.specs.declared.Standing.{Standing}
-use Rattle.record.specs.declared.Answer.{Answer}
-use Rattle.record.specs.declared.Answer.the-variants.{All, Refused}
-use Rattle.record.specs.Record.{standingAfter, Held, entries, fault, heldFrom, allOf, rowsOf, bytesOf, Outcome, refused, stored, surveyOf, readInto}
-use Rattle.record.specs.Steps.{First, first, ends, empty}
-use Rattle.record.specs.Wrote.{Wrote, sets-append, sets-front}
+use Rattle.record.specs.declared.Answer.the-variants.{All}
+use Rattle.record.specs.Record.{standingAfter, Held, entries, heldFrom, allOf, rowsOf, bytesOf, refused, stored}
+use Rattle.record.specs.Steps.{first, ends, empty}
+use Rattle.record.specs.Wrote.{sets-append, sets-front}
 
 -- n entries are held, and their rows fit
 pub record Storable (h : Held) (n : ℕ) (d : List ℕ) : Type 0 where

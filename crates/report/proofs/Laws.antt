@@ -2,13 +2,11 @@
 use Prim.Native.Nat.{ℕ, zero, suc, _+_, _-_, _/_, _%_, _≤_, _<_}
 use mathlib.Core.Path.{_≡_, refl, sym, ap, _∙_}
 use mathlib.Core.List.{List, [], _∷_, _++_, append-assoc}
-use mathlib.Core.Bool.{Bool, cond, true, false}
 use native.Mathlib.Omega.{arith}
 use native.Mathlib.Numerals.{add-one}
 use borrow.Author.Tests.{lt-ltb, le-ltb}
 use lib.ListN.{length, getD, set, take}
 use lib.Seq.{sets, take-suc, take-all, length-take-le, length-sets}
-use lib.Dec.{ltb}
 use Rattle.record.specs.Wrote.{Wrote, join, sets-append}
 use Rattle.record.specs.declared.Cell.{Cell}
 use Rattle.verdict.specs.declared.Verdict.{Verdict}

@@ -1,6 +1,6 @@
 -- What the walks over the words need, at the wire's number of words.
 use Prim.Native.Nat.{ℕ, _+_, _-_, _*_, _/_, _%_, _^_, _≤_, _<_}
-use mathlib.Core.Path.{_≡_, refl, ap, sym, _∙_}
+use mathlib.Core.Path.{_≡_, refl, sym, _∙_}
 use mathlib.Core.Bool.{Bool, true, false}
 use mathlib.Core.List.{List}
 use native.Mathlib.Omega.{arith}
@@ -9,8 +9,8 @@ use lib.ListN.{getD, set}
 use lib.Bits.{bitOr}
 use lib.Count.{ones, trailingZeros}
 use lib.Pow.{shl-exact}
-use Rattle.slots.specs.Free.{wordCount, slotCount, firstFree, countFrom, takenAt, givenAt, markedAt}
-use Rattle.slots.specs.Words.{TiedIn, Tied, Took}
+use Rattle.slots.specs.Free.{wordCount, slotCount, firstFree, countFrom, givenAt, markedAt}
+use Rattle.slots.specs.Words.{Tied, Took}
 use Rattle.slots.specs.Finding.{Passed, Here, here-of, pass-all, tied-taken, tied-given, taken-past, count-word}
 
 pub one-shl : (k : ℕ) → k < 64 → 1 * 2 ^ k % 18446744073709551616 ≡ 2 ^ k

@@ -1,5 +1,5 @@
 -- What holds of w words that say which of 64 w slots are free: the lowest free slot is found, taken and given back, and the free ones are counted.
-use Prim.Native.Nat.{ℕ, zero, suc, _+_, _-_, _*_, _/_, _%_, _^_, _≤_, _<_}
+use Prim.Native.Nat.{ℕ, _+_, _-_, _*_, _/_, _%_, _^_, _≤_, _<_}
 use mathlib.Core.Path.{_≡_, refl, ap, sym, _∙_}
 use mathlib.Core.Bool.{Bool, true, false}
 use mathlib.Core.List.{List}
@@ -12,7 +12,7 @@ use lib.Seq.{getD-set-same, getD-set-other, ext-getD}
 use borrow.Author.Tests.{eqb-true, eqb-false}
 use Rattle.slots.specs.Free.{firstFrom, countFrom, takenAt, givenAt}
 use Rattle.slots.specs.Words.{bitsFrom, TiedIn}
-use Rattle.slots.specs.Laws.{first-from, first-free, first-count, count-cat, taken-else, taken-fills, given-here, given-else}
+use Rattle.slots.specs.Laws.{first-free, first-count, count-cat, taken-else, taken-fills, given-here, given-else}
 use Rattle.slots.specs.Bits.{trailing, ones-bits, bits-count, first-here, first-there, bits-same, bits-filled, bits-freed, bitAt, bits-of}
 
 -- ---- which words

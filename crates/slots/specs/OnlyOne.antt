@@ -7,7 +7,7 @@ use mathlib.Core.Path.{_≡_, ap, sym, _∙_}
 use native.Mathlib.Omega.{arith}
 use lib.ListN.{length, getD}
 use Rattle.slots.specs.Free.{wordCount, firstFree, countFree, takenAt, givenAt}
-use Rattle.slots.specs.Words.{TiedIn, Tied, Took}
+use Rattle.slots.specs.Words.{Tied, Took}
 use Rattle.slots.specs.Finding.{tied-same, tied-only, tied-some, freeIn}
 use Rattle.slots.specs.Sheet.{lowest-of-6, count-of-6}
 

@@ -1,9 +1,9 @@
 -- Worked examples: all slots free, none, and slots 1 and 2 alone.
 use Prim.Native.Nat.{ℕ}
-use mathlib.Core.Bool.{Bool, true, false}
+use mathlib.Core.Bool.{true, false}
 use mathlib.Core.List.{[], _∷_}
 use mathlib.Core.Path.{_≡_, refl}
-use Rattle.slots.specs.Free.{slotCount, firstFrom, countFrom, firstFree, countFree, takenAt}
+use Rattle.slots.specs.Free.{firstFrom, countFrom, firstFree, countFree, takenAt}
 use Rattle.slots.specs.Bits.{bitAt}
 use Rattle.slots.specs.Finding.{freeIn}
 

@@ -1,15 +1,15 @@
 -- The words made a slot at a time: the slots below i as they are, the others not free.
 use Prim.Native.Nat.{ℕ, zero, suc, _+_, _*_, _≤_, _<_}
-use mathlib.Core.Path.{_≡_, refl, ap, sym, _∙_}
+use mathlib.Core.Path.{_≡_, refl, sym, _∙_}
 use mathlib.Core.Bool.{Bool, true, false, cond}
 use mathlib.Core.List.{List}
 use native.Mathlib.Omega.{arith}
 use lib.Dec.{ltb, eqb}
 use lib.ListN.{replicate, getD-replicate}
 use borrow.Author.Tests.{lt-ltb, le-ltb, ltb-true, ltb-false, eqb-true, eqb-false}
-use Rattle.slots.specs.Free.{wordCount, slotCount, digit, countFrom, countFree, givenAt, markedAt}
-use Rattle.slots.specs.Words.{bitsFrom, TiedIn, Tied}
-use Rattle.slots.specs.Laws.{count-same, count-given, given-here, given-else}
+use Rattle.slots.specs.Free.{wordCount, slotCount, markedAt}
+use Rattle.slots.specs.Words.{bitsFrom, Tied}
+use Rattle.slots.specs.Laws.{given-here, given-else}
 use Rattle.slots.specs.Finding.{tied-same}
 
 -- the slots below i as they are, the others not free

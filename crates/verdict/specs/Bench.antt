@@ -4,7 +4,6 @@ use Prim.Native.Nat.{ℕ}
 use mathlib.Core.Path.{_≡_, refl, ap}
 use mathlib.Core.List.{List, [], _∷_}
 use native.Mathlib.Omega.{arith}
-use lib.IntN.{pos}
 use lib.ListN.{take}
 use Rattle.number.specs.Number.{taken, lastOf, valueOf, numberOf, numberAt}
 use Rattle.number.specs.Value.{alternatingOf, signedOf}
@@ -15,7 +14,7 @@ use Rattle.law.specs.Sheet.{empty-lawful, good, good-lawful, bad, bad-cell, bad
 use Rattle.pairs.specs.Enough.{byteLimit, enough}
 use Rattle.verdict.specs.declared.Verdict.{Verdict}
 use Rattle.verdict.specs.declared.Verdict.the-variants.{Lawful as saysLawful, Unlawful as saysUnlawful, Refused as saysRefused}
-use Rattle.verdict.specs.Verdict.{asksFor, askedAmong, repeats, distinctFrom, distinct, takenFor, Judges, Lowest}
+use Rattle.verdict.specs.Verdict.{asksFor, askedAmong, repeats, distinctFrom, distinct, takenFor, Judges}
 use Rattle.verdict.specs.Answers.{cellIn}
 use Rattle.verdict.specs.OnlyOne.{lawful-exactly, unlawful-exactly}
 

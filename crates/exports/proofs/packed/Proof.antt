@@ -1,5 +1,5 @@
 -- `exports::packed` meets its contract. Assumes nothing.
-use mathlib.Core.Path.{_≡_, sym, ap, subst}
+use mathlib.Core.Path.{sym, ap, subst}
 use native.Mathlib.Omega.{arith}
 use Rattle.exports.specs.Packed.{packedAnswer, Small}
 use borrow.Author.Needs.{needs}

@@ -1,6 +1,5 @@
 -- `quorum::every` meets its contract: below sixteen by a shift, from there on all the bits.
 use borrow.Author.Needs.{needs}
-use native.Mathlib.Omega.{arith}
 use Rattle.quorum.proofs.Laws.{every-sixteen, every-fewer, shl-pos}
 use Rattle.quorum.proofs.every.Statement.{statement}
 use Rattle.quorum.proofs.every.Tie as tie

@@ -1,7 +1,7 @@
 -- `record::entry_at` meets its contract. Assumes nothing.
 use mathlib.Core.Path.{sym, _∙_}
 use native.Mathlib.Omega.{arith}
-use Rattle.record.specs.Entry.{upTo, andThen, entryAt}
+use Rattle.record.specs.Entry.{andThen, entryAt}
 use Rattle.record.proofs.Laws.{up-to-below}
 use borrow.Author.Needs.{needs}
 use Rattle.record.proofs.entry_at.Statement.{statement}

@@ -1,7 +1,7 @@
 -- `record::entry_length` meets its contract. Assumes nothing.
 use native.Mathlib.Omega.{arith}
 use Rattle.record.specs.Entry.{entryBytes}
-use Rattle.record.specs.Wrote.{Long, longer}
+use Rattle.record.specs.Wrote.{longer}
 use Rattle.record.proofs.Laws.{alternated}
 use borrow.Author.Needs.{needs}
 use Rattle.record.proofs.entry_length.Statement.{statement}

@@ -2,13 +2,11 @@
 use Rattle.record.specs.RowLaws.{row-next, more-rows, no-more-rows}
 -- Assumes nothing.
 use Prim.Native.Nat.{ℕ, _+_, _*_, _-_, _/_, _≤_, _<_}
-use mathlib.Core.Path.{_≡_, refl, sym, ap, _∙_}
-use mathlib.Core.Bool.{true, false}
+use mathlib.Core.Path.{_≡_, refl, sym, _∙_}
 use native.Mathlib.Omega.{arith}
 use lib.ListN.{length}
 use lib.Dec.{leb}
 use borrow.Author.Needs.{needs}
-use borrow.Author.Tests.{le-leb, lt-leb}
 use Rattle.record.specs.Entry.{entryBytes, rowAt}
 use Rattle.record.specs.Record.{faultAfter, standingAfter, rowsHeld}
 use Rattle.record.specs.declared.Entry.{Entry}

@@ -1,6 +1,5 @@
 -- `record::put_entry` meets its contract. Assumes nothing.
 use Rattle.record.proofs.Laws.{write-room, told-room}
-use native.Mathlib.Omega.{arith}
 use Rattle.record.specs.Entry.{entryBytes}
 use Rattle.record.proofs.Laws.{alternated}
 use borrow.Author.Needs.{needs}

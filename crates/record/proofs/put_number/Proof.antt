@@ -1,5 +1,4 @@
 -- `record::put_number` meets its contract. Assumes nothing.
-use native.Mathlib.Omega.{arith}
 use Rattle.record.proofs.Laws.{placed-next, placed-fits}
 use borrow.Author.Needs.{needs}
 use Rattle.record.proofs.put_number.Statement.{statement}

@@ -2,7 +2,6 @@
 -- Assumes nothing.
 use Prim.Native.Nat.{_-_}
 use mathlib.Core.Path.{sym, _∙_}
-use native.Mathlib.Omega.{arith}
 use borrow.Author.Needs.{needs}
 use Rattle.record.proofs.Emitting.{Emitting, emits, emits-entry, emits-room, emits-on, emits-long, emits-end}
 use Rattle.record.proofs.put_rows.Statement.{statement}

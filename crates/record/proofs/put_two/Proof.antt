@@ -1,6 +1,5 @@
 -- `record::put_two` meets its contract. Assumes nothing.
 use native.Mathlib.Omega.{arith}
-use mathlib.Core.List.{_++_}
 use lib.ListN.{length-append}
 use Rattle.number.specs.Number.{numberBytes}
 use Rattle.record.specs.Wrote.{join, wrote-length}

@@ -2,7 +2,7 @@
 use mathlib.Core.Path.{sym, _∙_}
 use native.Mathlib.Omega.{arith}
 use borrow.Author.Tests.{eq-eqb, ne-eqb}
-use Rattle.record.specs.Entry.{upTo, andThen, fieldsAt}
+use Rattle.record.specs.Entry.{andThen, fieldsAt}
 use Rattle.record.proofs.Laws.{up-to-below, held}
 use borrow.Author.Needs.{needs}
 use Rattle.record.proofs.read_fields.Statement.{statement}

@@ -1,8 +1,6 @@
 -- `record::row_found` meets its contract: each test leads to its law. Assumes nothing.
-use Prim.Native.Nat.{_≤_, _<_}
-use mathlib.Core.Path.{_≡_, sym, _∙_}
+use mathlib.Core.Path.{sym}
 use native.Mathlib.Omega.{arith}
-use borrow.Author.Tests.{lt-ltb, le-ltb}
 use Rattle.record.specs.RowLaws.{row-24, row-25-client, row-done, row-told, row-25-cell, row-read, row-write}
 use Rattle.record.proofs.Laws.{held}
 use borrow.Author.Needs.{needs}

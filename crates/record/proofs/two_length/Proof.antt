@@ -1,5 +1,4 @@
 -- `record::two_length` meets its contract. Assumes nothing.
-use mathlib.Core.Path.{sym, _∙_}
 use native.Mathlib.Omega.{arith}
 use lib.ListN.{length-append}
 use Rattle.number.specs.Laws.{length-few}

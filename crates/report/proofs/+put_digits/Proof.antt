@@ -1,8 +1,6 @@
 -- `report::put_digits` meets its contract: each return is one case of `digitsOf`. The measure is the count of places. Assumes nothing.
-use mathlib.Core.Path.{_≡_, refl, sym, ap, _∙_}
 use native.Mathlib.Omega.{arith}
 use borrow.Author.Needs.{needs}
-use lib.ListN.{length-set}
 use Rattle.record.specs.Wrote.{wrote-length}
 use Rattle.report.proofs.Laws.{none, one, more}
 use Prim.Native.Nat.{ℕ, _<_}

@@ -1,5 +1,5 @@
 -- `slots::bits` meets its contract: 64 bits have 64 ones at most.
-use mathlib.Core.Path.{_≡_, refl}
+use mathlib.Core.Path.{refl}
 use native.Mathlib.Omega.{arith}
 use borrow.Author.Needs.{needs}
 use lib.Count.{ones-le}

@@ -1,5 +1,5 @@
 -- `slots::low` meets its contract: a number that is not 0 has fewer than 64 zeros below its lowest bit.
-use mathlib.Core.Path.{_≡_, refl}
+use mathlib.Core.Path.{refl}
 use native.Mathlib.Omega.{arith}
 use borrow.Author.Needs.{needs}
 use lib.Count.{trailing-le}
