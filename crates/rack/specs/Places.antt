@@ -1,8 +1,9 @@
 -- Where the parts of a rack stand.
 use Prim.Native.Nat.{ℕ, _+_, _*_}
 use mathlib.Core.Bool.{Bool, true, false}
-use mathlib.Core.List.{List, [], _∷_}
-use lib.ListN.{getD, set}
+use mathlib.Core.List.{List, [], _∷_, map}
+use lib.ListN.{getD, set, take}
+use Rattle.record.specs.declared.Entry.{Entry}
 use Rattle.slots.specs.Free.{countFree, firstFree}
 use Rattle.rack.specs.declared.Pair.{Pair}
 use Rattle.rack.specs.declared.Message.{Message}
@@ -11,6 +12,7 @@ use Rattle.rack.specs.declared.Held.the-variants.{Empty, Full}
 use Rattle.rack.specs.declared.Slot.{Slot}
 use Rattle.rack.specs.declared.Work.the-variants.{Idle}
 use Rattle.rack.specs.declared.Party.{Party}
+use Rattle.rack.specs.declared.Line.{Line}
 use Rattle.rack.specs.declared.Rack.{Rack}
 use Rattle.rack.specs.Stamp.{freshPair}
 
@@ -63,3 +65,7 @@ roomOf wire = countFree (freeAt wire)
 unfoldable pub sentOf : List Slot → List Message → List Slot
 sentOf wire [] = wire
 sentOf wire (m ∷ ms) = sentOf (set wire (firstFree (freeAt wire)) (full m)) ms
+
+-- the record: the entries of the first `count` lines
+unfoldable pub recordOf : Rack → List Entry
+recordOf r = map (λ (l : Line). l .entry) (take (r .count) (r .lines))
