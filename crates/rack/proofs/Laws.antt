@@ -10,31 +10,15 @@ use lib.IntN.{ℤ}
 use mir.Syntax.{w32}
 use mir.Val.{toZ, ofZ}
 use mir.Facts.{toZ-ofZ}
-use borrow.Author.Tests.{lt-ltb, le-ltb, lt-leb, ltb-true, ltb-false, eq-eqb, ne-eqb}
+use borrow.Author.Tests.{lt-ltb, le-ltb, lt-leb, ltb-true, ltb-false}
 use Rattle.number.specs.Value.{signedOf}
 use Rattle.number.specs.ValueLaws.{signed-fits}
-use Rattle.rack.specs.declared.Stamp.{Stamp}
-use Rattle.rack.specs.declared.Party.{Party}
+use Rattle.plan.specs.declared.Party.{Party}
 use Rattle.rack.specs.declared.Rack.{Rack}
-use Rattle.rack.specs.Stamp.{stampLess}
 use Rattle.rack.specs.Places.{idle}
 use Rattle.rack.specs.Sound.{allBelow, sizesFit, owedBy, owed, recordFits}
 use Rattle.rack.specs.SoundLaws.{sized}
 use Rattle.rack.specs.Owed.{owedIn, owed-in, owed-beyond}
-
--- ---- stamps
-
-pub less-number : (s t : Stamp) → s .number < t .number → true ≡ stampLess s t
-unfolding stampLess
-less-number s t h = rw (lt-ltb (s .number) (t .number) h)
-
-pub more-number : (s t : Stamp) → t .number < s .number → false ≡ stampLess s t
-unfolding stampLess
-more-number s t h = rw (le-ltb (s .number) (t .number) (omega arith), ne-eqb (s .number) (t .number) (λ e. omega arith))
-
-pub less-rank : (s t : Stamp) → t .number ≤ s .number → s .number ≤ t .number → ltb (s .rank) (t .rank) ≡ stampLess s t
-unfolding stampLess
-less-rank s t h l = rw (le-ltb (s .number) (t .number) (omega arith), eq-eqb (s .number) (t .number) (omega arith))
 
 -- ---- room
 

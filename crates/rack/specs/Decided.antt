@@ -8,22 +8,22 @@ use lib.ListN.{getD}
 use lib.Count.{ones}
 use borrow.Author.Tests.{ltb-true, ltb-false}
 use Rattle.record.specs.Record.{entryLimit}
-use Rattle.rack.specs.declared.Held.{Held}
-use Rattle.rack.specs.declared.Held.the-variants.{Empty, Full}
-use Rattle.rack.specs.declared.Party.{Party}
-use Rattle.rack.specs.declared.Pair.{Pair}
+use Rattle.plan.specs.declared.Held.{Held}
+use Rattle.plan.specs.declared.Held.the-variants.{Empty, Full}
+use Rattle.plan.specs.declared.Party.{Party}
+use Rattle.plan.specs.declared.Pair.{Pair}
 use Rattle.rack.specs.declared.Sizes.{Sizes}
 use Rattle.rack.specs.declared.Rack.{Rack}
-use Rattle.rack.specs.declared.Event.{Event}
-use Rattle.rack.specs.declared.Event.the-variants.{StartRead, StartWrite, Deliver, Lose, Copy, Resend, Stop, Off, On, Unknown}
-use Rattle.rack.specs.declared.Note.{Note}
-use Rattle.rack.specs.declared.Note.the-variants.{Nothing, Asked, Ended}
-use Rattle.rack.specs.declared.Plan.{Plan}
-use Rattle.rack.specs.declared.Outcome.{Outcome}
-use Rattle.rack.specs.declared.Outcome.the-variants.{No, Go}
-use Rattle.rack.specs.Stamp.{freshPair}
-use Rattle.rack.specs.Plan.{Sight, planOf}
-use Rattle.rack.specs.Sight.{sightOf}
+use Rattle.plan.specs.declared.Event.{Event}
+use Rattle.plan.specs.declared.Event.the-variants.{StartRead, StartWrite, Deliver, Lose, Copy, Resend, Stop, Off, On, Unknown}
+use Rattle.plan.specs.declared.Note.{Note}
+use Rattle.plan.specs.declared.Note.the-variants.{Nothing, Asked, Ended}
+use Rattle.plan.specs.declared.Plan.{Plan}
+use Rattle.plan.specs.declared.Outcome.{Outcome}
+use Rattle.plan.specs.declared.Outcome.the-variants.{No, Go}
+use Rattle.plan.specs.Stamp.{freshPair}
+use Rattle.plan.specs.Plan.{Sight, planOf}
+use Rattle.plan.specs.Sight.{sightOf}
 use Rattle.rack.specs.Places.{slotLimit, partyAt, heldAt, roomOf}
 use Rattle.rack.specs.Sound.{pairFits, heldFits, workFits, owedBy, owed, soundOf}
 use Rattle.rack.specs.Run.{inRack, slotOf, clientIn, placeIn, clientOf, noted, freed, checked, decided, entriesIn}

@@ -1,11 +1,8 @@
 -- Definitions.
-pub mod Stamp
-pub mod Plan
 pub mod Places
 pub mod Sound
 pub mod Run
 -- Names for parts of them that the code computes.
-pub mod Sight
 pub mod Parts
 -- Laws.
 pub mod Tests

@@ -7,21 +7,21 @@ use lib.Count.{ones}
 use Rattle.number.specs.Value.{signedOf}
 use Rattle.quorum.specs.Sets.{setBits, hasReplica, withReplica, majority, asksEnough, keepsEnough, everyReplica, within, membersFrom}
 use Rattle.slots.specs.Free.{countFrom, firstFrom}
-use Rattle.rack.specs.declared.Pair.{Pair}
-use Rattle.rack.specs.declared.Body.{Body}
-use Rattle.rack.specs.declared.Body.the-variants.{Ask, Keep}
-use Rattle.rack.specs.declared.Held.{Held}
-use Rattle.rack.specs.declared.Held.the-variants.{Empty, Full}
-use Rattle.rack.specs.declared.Work.the-variants.{Idle}
+use Rattle.plan.specs.declared.Pair.{Pair}
+use Rattle.plan.specs.declared.Body.{Body}
+use Rattle.plan.specs.declared.Body.the-variants.{Ask, Keep}
+use Rattle.plan.specs.declared.Held.{Held}
+use Rattle.plan.specs.declared.Held.the-variants.{Empty, Full}
+use Rattle.plan.specs.declared.Work.the-variants.{Idle}
 use Rattle.rack.specs.declared.Rack.{Rack}
-use Rattle.rack.specs.declared.Event.{Event}
-use Rattle.rack.specs.declared.Event.the-variants.{StartRead, StartWrite, Deliver, Lose, Copy, Resend, Stop, Off, On, Unknown}
-use Rattle.rack.specs.declared.Plan.{Plan}
-use Rattle.rack.specs.declared.Outcome.{Outcome}
-use Rattle.rack.specs.declared.Outcome.the-variants.{No, Go}
+use Rattle.plan.specs.declared.Event.{Event}
+use Rattle.plan.specs.declared.Event.the-variants.{StartRead, StartWrite, Deliver, Lose, Copy, Resend, Stop, Off, On, Unknown}
+use Rattle.plan.specs.declared.Plan.{Plan}
+use Rattle.plan.specs.declared.Outcome.{Outcome}
+use Rattle.plan.specs.declared.Outcome.the-variants.{No, Go}
 use Rattle.rack.specs.declared.Ran.{Ran}
-use Rattle.rack.specs.Stamp.{stampLess, raised, freshPair}
-use Rattle.rack.specs.Plan.{started, startIn, startOf, askOf, keepOf, current, keepsOf, phaseEnds, holds, tellCounts, tellIn, tellOf, lastEntry, keptCounts, keptIn, keptOf, deliverIn, deliverOf, ofSlot, planOf, messageOf}
+use Rattle.plan.specs.Stamp.{stampLess, raised, freshPair}
+use Rattle.plan.specs.Plan.{started, startIn, startOf, askOf, keepOf, current, keepsOf, phaseEnds, holds, tellCounts, tellIn, tellOf, lastEntry, keptCounts, keptIn, keptOf, deliverIn, deliverOf, ofSlot, planOf, messageOf}
 use Rattle.rack.specs.Places.{partyAt, pairAt, heldAt, freeAt, roomOf, sentOf}
 use Rattle.rack.specs.Sound.{allBelow, sizesFit, pairFits, bodyFits, messageFits, heldFits, workFits, owes, owedBy, owedBelow, owed, wireFits, pairsFit, partiesFit, recordFits, soundOf}
 use Rattle.rack.specs.Run.{freshRack, byte, eventOf, inRack, slotOf, clientIn, placeIn, clientOf, noted, freed, checked, decided, addressed, cleared, recorded, entriesIn, appliedOf, turn, runFrom, runOf}

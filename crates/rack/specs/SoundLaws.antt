@@ -9,10 +9,10 @@ use borrow.Author.Tests.{lt-ltb, ltb-true, le-leb, leb-true, eqb-true, eq-eqb, n
 use Rattle.record.specs.Record.{entryLimit}
 use Rattle.record.specs.declared.Cell.{Cell}
 use Rattle.quorum.specs.Sets.{within, asksEnough, keepsEnough}
-use Rattle.rack.specs.declared.Pair.{Pair}
-use Rattle.rack.specs.declared.Message.{Message}
-use Rattle.rack.specs.declared.Goal.{Goal}
-use Rattle.rack.specs.declared.Work.the-variants.{Asking, Keeping}
+use Rattle.plan.specs.declared.Pair.{Pair}
+use Rattle.plan.specs.declared.Message.{Message}
+use Rattle.plan.specs.declared.Goal.{Goal}
+use Rattle.plan.specs.declared.Work.the-variants.{Asking, Keeping}
 use Rattle.rack.specs.declared.Sizes.{Sizes}
 use Rattle.rack.specs.declared.Rack.{Rack}
 use Rattle.rack.specs.Places.{slotLimit, partyAt, pairAt, heldAt}

@@ -2,16 +2,16 @@
 ghost use mathlib.Core.Path.{_≡_};
 ghost use Rattle.rack.specs.Places.{idle};
 ghost use Rattle.rack.specs.Run.{freshRack, madeOf};
-use crate::Held;
+use plan::Held;
 use crate::Line;
 use crate::Made;
-use crate::Party;
+use plan::Party;
 use crate::Rack;
 use crate::Sizes;
 use crate::Slot;
-use crate::Work;
+use plan::Work;
 use crate::soundness::sizes_in;
-use crate::stamps::fresh_pair;
+use plan::stamps::fresh_pair;
 use record::Client;
 use record::Entry;
 

@@ -6,14 +6,14 @@ ghost use Rattle.rack.specs.Owed.{owedIn};
 ghost use Rattle.rack.specs.Places.{pairAt};
 ghost use Rattle.rack.specs.Parts.{toldFits, askFits, keepFits};
 ghost use Rattle.rack.specs.Sound.{allBelow, sizesFit, pairFits, bodyFits, messageFits, heldFits, workFits, owes, owedBy, owed, wireFits, pairsFit, partiesFit, recordFits, soundOf};
-use crate::Body;
-use crate::Held;
-use crate::Message;
-use crate::Pair;
-use crate::Party;
+use plan::Body;
+use plan::Held;
+use plan::Message;
+use plan::Pair;
+use plan::Party;
 use crate::Rack;
 use crate::Sizes;
-use crate::Work;
+use plan::Work;
 use record::Cell;
 
 // 1 to 15 replicas, 1 to 8 clients and 1 to 16 cells.

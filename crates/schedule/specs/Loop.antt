@@ -11,17 +11,17 @@ use Rattle.record.specs.declared.Entry.{Entry}
 use Rattle.slots.specs.Free.{countFree, markedAt}
 use Rattle.slots.specs.Words.{Tied}
 use Rattle.quorum.specs.Sets.{within, membersOf}
-use Rattle.rack.specs.declared.Message.{Message}
+use Rattle.plan.specs.declared.Message.{Message}
 use Rattle.rack.specs.declared.Slot.{Slot}
 use Rattle.rack.specs.declared.Rack.{Rack}
-use Rattle.rack.specs.declared.Event.{Event}
-use Rattle.rack.specs.declared.Note.{Note}
-use Rattle.rack.specs.declared.Note.the-variants.{Nothing, Asked, Ended}
-use Rattle.rack.specs.declared.Plan.{Plan}
-use Rattle.rack.specs.declared.Outcome.{Outcome}
-use Rattle.rack.specs.declared.Outcome.the-variants.{No, Go}
-use Rattle.rack.specs.Stamp.{freshPair}
-use Rattle.rack.specs.Plan.{planOf}
+use Rattle.plan.specs.declared.Event.{Event}
+use Rattle.plan.specs.declared.Note.{Note}
+use Rattle.plan.specs.declared.Note.the-variants.{Nothing, Asked, Ended}
+use Rattle.plan.specs.declared.Plan.{Plan}
+use Rattle.plan.specs.declared.Outcome.{Outcome}
+use Rattle.plan.specs.declared.Outcome.the-variants.{No, Go}
+use Rattle.plan.specs.Stamp.{freshPair}
+use Rattle.plan.specs.Plan.{planOf}
 use Rattle.rack.specs.Places.{empty, idle, heldIn, freeAt, roomOf, sentOf}
 use Rattle.rack.specs.Sound.{owedBy, owed, soundOf}
 use Rattle.rack.specs.Run.{inRack, slotOf, placeIn, clientOf, checked, decided, addressed, cleared, recorded, entriesIn, appliedOf, turn, ranOf, runFrom}

@@ -1,0 +1,112 @@
+// What each event of a rack does, planned from the few things that it looks at; and the kinds of thing that plans speak of.
+pub mod planning;
+pub mod stamps;
+
+use record::Cell;
+use record::Client;
+use record::Entry;
+use record::Replica;
+
+// Stamps compare by number, then rank; a rank is the number of the client that chose the stamp.
+pub struct Stamp {
+    pub number: u32,
+    pub rank: u8,
+}
+
+// What a replica keeps for one cell.
+pub struct Pair {
+    pub stamp: Stamp,
+    pub value: i32,
+}
+
+// What a message says.
+pub enum Body {
+    Ask,
+    Tell(Pair),
+    Keep(Pair),
+    Kept,
+}
+
+// A message: between which client and replica, about which cell, for which operation number.
+pub struct Message {
+    pub client: Client,
+    pub replica: Replica,
+    pub cell: Cell,
+    pub op: u16,
+    pub body: Body,
+}
+
+// What a slot of the wire holds.
+pub enum Held {
+    Empty,
+    Full(Message),
+}
+
+// What an open operation is for.
+pub enum Goal {
+    Read,
+    Write(i32),
+}
+
+// What a client is at. In the ask phase nothing is held while the set is empty, and `held` is then no part of the state.
+pub enum Work {
+    Idle,
+    Asking {
+        cell: Cell,
+        goal: Goal,
+        set: u16,
+        held: Pair,
+    },
+    Keeping {
+        cell: Cell,
+        goal: Goal,
+        set: u16,
+        held: Pair,
+    },
+}
+
+// A client of the rack: whether it is stopped, its operation number, and what it is at.
+pub struct Party {
+    pub stopped: bool,
+    pub op: u16,
+    pub work: Work,
+}
+
+// An event. Unknown is what names no kind of event, or a number that no rack has.
+pub enum Event {
+    StartRead(Client, Cell),
+    StartWrite(Client, Cell, i32),
+    Deliver(usize),
+    Lose(usize),
+    Copy(usize),
+    Resend(Client),
+    Stop(Client),
+    Off(Replica),
+    On(Replica),
+    Unknown,
+}
+
+// The entry that an event adds to the record, if any.
+pub enum Note {
+    Nothing,
+    Asked(Entry),
+    Ended(Entry),
+}
+
+// What an event leaves: the client and the pair that it looked at, the power, whether its slot becomes empty, the entry it adds, and the message it
+// sends to each replica of a set.
+pub struct Plan {
+    pub party: Party,
+    pub pair: Pair,
+    pub power: u16,
+    pub clear: bool,
+    pub note: Note,
+    pub message: Message,
+    pub to: u16,
+}
+
+// An event is refused, or done as planned.
+pub enum Outcome {
+    No(u8),
+    Go(Plan),
+}

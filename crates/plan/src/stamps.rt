@@ -1,0 +1,38 @@
+// Stamps and pairs.
+ghost use mathlib.Core.Path.{_≡_};
+ghost use Rattle.plan.specs.Stamp.{stampLess, raised, freshPair};
+use crate::Pair;
+use crate::Stamp;
+
+// Whether s is the lesser stamp: by number, then rank.
+pub fn less(s: Stamp, t: Stamp) -> bool
+    ensures { λ r. ⌜ r ≡ stampLess s t ⌝ }
+{
+    if s.number < t.number {
+        return true;
+    }
+    if t.number < s.number {
+        return false;
+    }
+    s.rank < t.rank
+}
+
+// A pair after another came: stamp and value are taken if the stamp is greater than its own.
+pub fn raise(pair: Pair, other: Pair) -> Pair
+    ensures { λ r. ⌜ r ≡ raised pair other ⌝ }
+{
+    let s = pair.stamp;
+    let t = other.stamp;
+    if less(s, t) {
+        return other;
+    }
+    pair
+}
+
+// Stamp (0, 0) with value 0.
+pub fn fresh_pair() -> Pair
+    ensures { λ r. ⌜ r ≡ freshPair ⌝ }
+{
+    let s = Stamp { number: 0, rank: 0 };
+    Pair { stamp: s, value: 0 }
+}
