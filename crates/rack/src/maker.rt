@@ -2,15 +2,15 @@
 ghost use mathlib.Core.Path.{_≡_};
 ghost use Rattle.rack.specs.Places.{idle};
 ghost use Rattle.rack.specs.Run.{freshRack, madeOf};
-use plan::Held;
 use crate::Line;
 use crate::Made;
-use plan::Party;
 use crate::Rack;
 use crate::Sizes;
 use crate::Slot;
-use plan::Work;
 use crate::soundness::sizes_in;
+use plan::Held;
+use plan::Party;
+use plan::Work;
 use plan::stamps::fresh_pair;
 use record::Client;
 use record::Entry;

@@ -6,13 +6,13 @@ ghost use Rattle.rack.specs.Owed.{owedIn};
 ghost use Rattle.rack.specs.Places.{pairAt};
 ghost use Rattle.rack.specs.Parts.{toldFits, askFits, keepFits};
 ghost use Rattle.rack.specs.Sound.{allBelow, sizesFit, pairFits, bodyFits, messageFits, heldFits, workFits, owes, owedBy, owed, wireFits, pairsFit, partiesFit, recordFits, soundOf};
+use crate::Rack;
+use crate::Sizes;
 use plan::Body;
 use plan::Held;
 use plan::Message;
 use plan::Pair;
 use plan::Party;
-use crate::Rack;
-use crate::Sizes;
 use plan::Work;
 use record::Cell;
 
