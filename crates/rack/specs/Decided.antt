@@ -26,8 +26,9 @@ use Rattle.plan.specs.Plan.{Sight, planOf}
 use Rattle.plan.specs.Sight.{sightOf}
 use Rattle.rack.specs.Places.{slotLimit, partyAt, heldAt, roomOf}
 use Rattle.rack.specs.Sound.{pairFits, heldFits, workFits, owedBy, owed, soundOf}
-use Rattle.rack.specs.Run.{inRack, slotOf, clientIn, placeIn, clientOf, noted, freed, checked, decided, entriesIn}
-use Rattle.rack.specs.Tests.{and-left}
+use Rattle.plan.specs.About.{clientIn, clientOf}
+use Rattle.rack.specs.Run.{inRack, slotOf, placeIn, noted, freed, checked, decided, entriesIn}
+use Rattle.plan.specs.Tests.{and-left}
 use Rattle.rack.specs.SoundLaws.{Sized, named, Sound, sound-of}
 use Rattle.rack.specs.PlanLaws.{keptFor, PlanFits, OutcomeFits, plan-fits}
 

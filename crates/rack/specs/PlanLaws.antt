@@ -38,7 +38,7 @@ use Rattle.plan.specs.Sight.{sightOf}
 use Rattle.rack.specs.Places.{isEmpty}
 use Rattle.rack.specs.Sound.{pairFits, bodyFits, messageFits, heldFits, workFits, owes, owedBy}
 use Rattle.rack.specs.Run.{inRack, entriesIn}
-use Rattle.rack.specs.Tests.{never, and-left, and-right}
+use Rattle.plan.specs.Tests.{never, and-left, and-right}
 use Rattle.rack.specs.SoundLaws.{Sized, Named, named, message-fits, ask-open, ask-fits, keep-open, keep-fits}
 
 -- places of the record that 11 has kept for an operation that starts: its entry and its answer

@@ -27,6 +27,7 @@ use Rattle.rack.specs.declared.Made.{Made}
 use Rattle.rack.specs.declared.Ran.{Ran}
 use Rattle.plan.specs.Stamp.{freshPair}
 use Rattle.plan.specs.Plan.{messageOf, planOf}
+use Rattle.plan.specs.About.{clientOf}
 use Rattle.rack.specs.Places.{slotLimit, empty, idle, partyAt, pairPlace, heldAt, roomOf, sentOf}
 use Rattle.rack.specs.Sound.{sizesFit, owed, soundOf}
 
@@ -98,27 +99,10 @@ slotOf (Off replica) = 0
 slotOf (On replica) = 0
 slotOf Unknown = 0
 
--- the client and the pair's place that a slot's message is about; 0 where it is empty
-unfoldable pub clientIn : Held → ℕ
-clientIn Empty = 0
-clientIn (Full m) = m .client .0
-
+-- the place of the pair that a slot's message is about; 0 where it is empty
 unfoldable pub placeIn : Held → ℕ
 placeIn Empty = 0
 placeIn (Full m) = pairPlace (m .replica .0) (m .cell .0)
-
--- its client: the one it names, else its message's
-unfoldable pub clientOf : Event → Held → ℕ
-clientOf (StartRead client cell) held = client .0
-clientOf (StartWrite client cell v) held = client .0
-clientOf (Deliver slot) held = clientIn held
-clientOf (Lose slot) held = clientIn held
-clientOf (Copy slot) held = clientIn held
-clientOf (Resend client) held = client .0
-clientOf (Stop client) held = client .0
-clientOf (Off replica) held = 0
-clientOf (On replica) held = 0
-clientOf Unknown held = 0
 
 -- ---- the refusals that every plan has to pass
 

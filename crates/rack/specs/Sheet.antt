@@ -24,7 +24,8 @@ use Rattle.plan.specs.Stamp.{stampLess, raised, freshPair}
 use Rattle.plan.specs.Plan.{started, startIn, startOf, askOf, keepOf, current, keepsOf, phaseEnds, holds, tellCounts, tellIn, tellOf, lastEntry, keptCounts, keptIn, keptOf, deliverIn, deliverOf, ofSlot, planOf, messageOf}
 use Rattle.rack.specs.Places.{partyAt, pairAt, heldAt, freeAt, roomOf, sentOf}
 use Rattle.rack.specs.Sound.{allBelow, sizesFit, pairFits, bodyFits, messageFits, heldFits, workFits, owes, owedBy, owedBelow, owed, wireFits, pairsFit, partiesFit, recordFits, soundOf}
-use Rattle.rack.specs.Run.{freshRack, byte, eventOf, inRack, slotOf, clientIn, placeIn, clientOf, noted, freed, checked, decided, addressed, cleared, recorded, entriesIn, appliedOf, turn, runFrom, runOf}
+use Rattle.plan.specs.About.{clientIn, clientOf}
+use Rattle.rack.specs.Run.{freshRack, byte, eventOf, inRack, slotOf, placeIn, noted, freed, checked, decided, addressed, cleared, recorded, entriesIn, appliedOf, turn, runFrom, runOf}
 
 -- client 0 starts a write of 9, which stands as 18, to cell 0; slots are delivered
 abbrev write : List ℕ

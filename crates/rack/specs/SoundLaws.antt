@@ -17,7 +17,8 @@ use Rattle.rack.specs.declared.Sizes.{Sizes}
 use Rattle.rack.specs.declared.Rack.{Rack}
 use Rattle.rack.specs.Places.{slotLimit, partyAt, pairAt, heldAt}
 use Rattle.rack.specs.Sound.{allBelow, sizesFit, pairFits, bodyFits, messageFits, heldFits, workFits, owed, wireFits, pairsFit, partiesFit, recordFits, soundOf}
-use Rattle.rack.specs.Tests.{and-left, and-right, and-true, or-cases, or-left, or-right, all-at, all-of}
+use Rattle.plan.specs.Tests.{and-left, and-right, and-true, or-cases, or-left, or-right}
+use Rattle.rack.specs.Tests.{all-at, all-of}
 
 -- ---- sizes
 

@@ -24,7 +24,8 @@ use Rattle.plan.specs.Stamp.{freshPair}
 use Rattle.plan.specs.Plan.{planOf}
 use Rattle.rack.specs.Places.{empty, idle, heldIn, freeAt, roomOf, sentOf}
 use Rattle.rack.specs.Sound.{owedBy, owed, soundOf}
-use Rattle.rack.specs.Run.{inRack, slotOf, placeIn, clientOf, checked, decided, addressed, cleared, recorded, entriesIn, appliedOf, turn, ranOf, runFrom}
+use Rattle.plan.specs.About.{clientOf}
+use Rattle.rack.specs.Run.{inRack, slotOf, placeIn, checked, decided, addressed, cleared, recorded, entriesIn, appliedOf, turn, ranOf, runFrom}
 use Rattle.rack.specs.SoundLaws.{sound-of}
 use Rattle.rack.specs.Decided.{lookedClient, lookedParty, lookedPlace, Looked, looked, Decided, decided-fits}
 use Rattle.schedule.specs.Stays.{stays, sound-stays, owed-after}
