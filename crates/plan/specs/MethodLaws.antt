@@ -1,9 +1,8 @@
 -- Every plan is of the method: what is done of an event is one of the method's cases.
-use Prim.Native.Nat.{ℕ, _+_}
-use mathlib.Core.Path.{_≡_, refl, sym, _∙_, ap, subst}
+use Prim.Native.Nat.{ℕ}
+use mathlib.Core.Path.{_≡_, refl, subst}
 use mathlib.Core.Bool.{Bool, true, false, cond, not}
 use lib.Dec.{eqb}
-use lib.IntN.{ℤ}
 use borrow.Author.Tests.{eqb-true, eqb-false}
 use Rattle.record.specs.declared.Client.{Client}
 use Rattle.record.specs.declared.Cell.{Cell}
@@ -27,7 +26,7 @@ use Rattle.plan.specs.Stamp.{stampLess, raised}
 use Rattle.plan.specs.Plan.{Sight, usedUp, started, startIn, startOf, askOf, keepOf, current, keepsOf, written, phaseEnds, holds, tellCounts, tellIn, tellOf, lastEntry, keptCounts, keptIn, keptOf, deliverIn, deliverOf, copyOf, resendIn, resendOf, stopOf, powered, offOf, onOf, ofSlot, planOf}
 use Rattle.plan.specs.About.{clientIn, clientOf}
 use Rattle.plan.specs.Tests.{and-right}
-use Rattle.plan.specs.Method.{Raised, Holds, Written, Chosen, firstEntry, endEntry, Got, Says, Request, Repeats, Still, Rests, Starts, Tells, Takes, Heard, Hears, Chooses, Counted, Counts, Ends, Does}
+use Rattle.plan.specs.Method.{Raised, Holds, Chosen, firstEntry, endEntry, Heard, Counted, Does}
 use Rattle.plan.specs.Method.Raised.{taken, left}
 use Rattle.plan.specs.Method.Holds.{first, later}
 use Rattle.plan.specs.Method.Repeats.{none, copy, again}

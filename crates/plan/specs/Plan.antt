@@ -101,6 +101,11 @@ keepOf s m q = cond (hasReplica (s .power) (m .replica .0)) (answered s (raised 
 unfoldable pub current : Party → Message → Bool
 current party m = not (party .stopped) && eqb (party .op) (m .op)
 
+-- the entry that ends an operation: a read gives the held value
+unfoldable pub lastEntry : Goal → Client → Pair → Entry
+lastEntry Read client held = Told client (held .value)
+lastEntry (Write v) client held = Done client
+
 -- the set is emptied and keep goes to every replica, with the pair that is then held
 unfoldable pub keepsOf : Sight → Message → Cell → Goal → Pair → Outcome
 keepsOf s m cell goal held =
@@ -136,11 +141,6 @@ tellIn (Keeping cell goal set held) s m q = usedUp s m
 
 unfoldable pub tellOf : Sight → Message → Pair → Outcome
 tellOf s m q = cond (current (s .party) m) (tellIn (s .party .work) s m q) (usedUp s m)
-
--- the entry that ends an operation: a read gives the held value
-unfoldable pub lastEntry : Goal → Client → Pair → Entry
-lastEntry Read client held = Told client (held .value)
-lastEntry (Write v) client held = Done client
 
 -- a kept that counts: at a majority the operation ends, the record gets its entry, the client is idle
 unfoldable pub keptCounts : Sight → Message → Cell → Goal → ℕ → Pair → Outcome
