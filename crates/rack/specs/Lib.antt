@@ -16,3 +16,5 @@ pub mod Decided
 pub mod Refusals
 pub mod Fresh
 pub mod Sheet
+-- No other outcome fits a call.
+pub mod Raising
