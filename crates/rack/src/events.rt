@@ -11,6 +11,7 @@ use crate::Held;
 use crate::Message;
 use crate::Note;
 use crate::Outcome;
+use crate::Rack;
 use crate::Sizes;
 use record::Cell;
 use record::Client;
@@ -125,7 +126,7 @@ fn both_in(sizes: Sizes, client: Client, cell: Cell) -> bool
 fn slot_in(slot: usize) -> bool
     ensures { λ r. ⌜ r ≡ ltb slot 256 ⌝ }
 {
-    slot < 256
+    slot < Rack::SLOTS
 }
 
 fn has_client(sizes: Sizes, client: Client) -> bool

@@ -98,8 +98,8 @@ pub struct Rack {
     pub count: usize,
     pub parties: [Party; 8],
     pub pairs: [Pair; 240],
-    pub wire: [Slot; 256],
-    pub lines: [Line; 2048],
+    pub wire: [Slot; Rack::SLOTS],
+    pub lines: [Line; Rack::ENTRIES],
 }
 
 // An event. Unknown is what names no kind of event, or a number that no rack has.
