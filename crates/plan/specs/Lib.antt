@@ -9,3 +9,5 @@ pub mod Sight
 -- Laws.
 pub mod Tests
 pub mod MethodLaws
+-- No other outcome fits a call.
+pub mod Raising

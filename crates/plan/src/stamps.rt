@@ -17,8 +17,8 @@ pub fn less(s: Stamp, t: Stamp) -> bool
     s.rank < t.rank
 }
 
-// A pair after another came: stamp and value are taken if the stamp is greater than its own.
-pub fn raise(pair: Pair, other: Pair) -> Pair
+// The pair of the greater stamp; the first, where the two stamps are the same.
+fn greater(pair: Pair, other: Pair) -> Pair
     ensures { λ r. ⌜ r ≡ raised pair other ⌝ }
 {
     let s = pair.stamp;
@@ -27,6 +27,22 @@ pub fn raise(pair: Pair, other: Pair) -> Pair
         return other;
     }
     pair
+}
+
+// A lent pair is raised where it stands: stamp and value are taken if the stamp is greater than its own.
+pub fn raise_in_place(own: &mut Pair, other: Pair)
+    ensures { λ r. ⌜ now (own .exit) ≡ raised (now (own .entry)) other ⌝ }
+{
+    *own = greater(*own, other);
+}
+
+// The same with plain parameters, so that whoever calls it lends nothing.
+pub fn raise(pair: Pair, other: Pair) -> Pair
+    ensures { λ r. ⌜ r ≡ raised pair other ⌝ }
+{
+    let mut own = pair;
+    raise_in_place(&mut own, other);
+    own
 }
 
 // Stamp (0, 0) with value 0.

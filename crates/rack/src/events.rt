@@ -7,6 +7,7 @@ ghost use lib.Count.{ones};
 ghost use Rattle.number.specs.Value.{signedOf};
 ghost use Rattle.plan.specs.About.{clientIn, clientOf};
 ghost use Rattle.rack.specs.Run.{byte, eventOf, inRack, slotOf, placeIn, freed, checked};
+use crate::Rack;
 use crate::Sizes;
 use plan::Event;
 use plan::Held;
@@ -125,7 +126,7 @@ fn both_in(sizes: Sizes, client: Client, cell: Cell) -> bool
 fn slot_in(slot: usize) -> bool
     ensures { λ r. ⌜ r ≡ ltb slot 256 ⌝ }
 {
-    slot < 256
+    slot < Rack::SLOTS
 }
 
 fn has_client(sizes: Sizes, client: Client) -> bool

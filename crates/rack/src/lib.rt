@@ -33,8 +33,8 @@ pub struct Rack {
     pub count: usize,
     pub parties: [Party; 8],
     pub pairs: [Pair; 240],
-    pub wire: [Slot; 256],
-    pub lines: [Line; 2048],
+    pub wire: [Slot; Rack::SLOTS],
+    pub lines: [Line; Rack::ENTRIES],
 }
 
 // What the maker gives: the refusal, 0 for none, and the rack.

@@ -50,8 +50,8 @@ fn fresh(replicas: u8, clients: u8, cells: u8) -> Rack
     let power = quorum::every(replicas);
     let parties = [party; 8];
     let pairs = [pair; 240];
-    let wire = [slot; 256];
-    let lines = [line; 2048];
+    let wire = [slot; Rack::SLOTS];
+    let lines = [line; Rack::ENTRIES];
     Rack {
         sizes: sizes,
         power: power,
@@ -65,9 +65,9 @@ fn fresh(replicas: u8, clients: u8, cells: u8) -> Rack
 
 impl Rack {
     // How many slots a wire has, and how many entries a record holds at most.
-    pub const SLOTS: usize = 256;
+    pub const SLOTS: usize = slots::SLOTS;
 
-    pub const ENTRIES: usize = 2048;
+    pub const ENTRIES: usize = record::ENTRY_LIMIT;
 
     // The fresh rack of these sizes; where one is out of range, that is refused 1 and the fresh rack is of sizes 1, 1, 1.
     pub fn made(replicas: u32, clients: u32, cells: u32) -> Made

@@ -218,7 +218,7 @@ fn wire_fits(rack: Rack) -> bool
 {
     let sizes = rack.sizes;
     let mut i: usize = 0;
-    while i < 256 {
+    while i < Rack::SLOTS {
         let slot = rack.wire[i];
         let held = slot.held;
         if !held_fits(sizes, held) {
@@ -290,10 +290,10 @@ fn record_fits(rack: Rack) -> bool
     let parties = rack.parties;
     let sizes = rack.sizes;
     let count = rack.count;
-    if 2048 < count {
+    if Rack::ENTRIES < count {
         return false;
     }
-    count + owed_by_all(parties, sizes.clients) <= 2048
+    count + owed_by_all(parties, sizes.clients) <= Rack::ENTRIES
 }
 
 // Whether a rack of permitted sizes is sound.

@@ -1,6 +1,7 @@
--- Definitions. Entry: one entry. Record: entries one after another, the reader and the writer. Legal: a record without a fault.
+-- Definitions. Entry: one entry. Head: the reading head. Record: entries one after another, the reader and the writer. Legal: a record without a fault.
 -- Below: bytes and words. Answers: what an answer means.
 pub mod Entry
+pub mod Head
 pub mod Record
 pub mod Legal
 pub mod Below

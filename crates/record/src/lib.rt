@@ -8,6 +8,7 @@ ghost use mathlib.Core.Bool.{cond};
 ghost use mathlib.Core.List.{[], _∷_, _++_};
 ghost use Rattle.number.specs.Number.{numberBytes, numberAt};
 ghost use Rattle.record.specs.Entry.{entryBytes, upTo, fieldsAt, entryAt, rowOf, rowFound, rowAt};
+ghost use Rattle.record.specs.Head.{underHead, placeAfter, headAfter};
 ghost use Rattle.record.specs.Record.{fresh, faultAfter, standingAfter, recordOf, rowsHeld, surveyOf, measureOf, readOutcome, writeOutcome, Leaves};
 ghost use Rattle.record.specs.Storing.{Storable, Writable};
 ghost use Rattle.record.specs.Wrote.{Wrote, Long};
@@ -33,6 +34,12 @@ pub enum Entry {
 pub enum Found {
     At(Entry, usize),
     Fault(u8),
+}
+
+// The reading head: the record's bytes and its place in them.
+pub struct ReadingHead<'a> {
+    pub bytes: &'a [u8],
+    pub place: usize,
 }
 
 // What each client has open: nothing is 0, a read 1, a write 2.
@@ -96,7 +103,7 @@ fn read_fields(s: &[u8], at: usize, kind: u32, client: u8) -> Found
 }
 
 // The entry at a place of the bytes.
-pub fn entry_at(s: &[u8], at: usize) -> Found
+fn read_entry(s: &[u8], at: usize) -> Found
     ensures { λ r. ⌜ r ≡ entryAt (now (s .entry)) at ⌝ }
 {
     match read_up_to(s, at, 3, 24) {
@@ -106,6 +113,39 @@ pub fn entry_at(s: &[u8], at: usize) -> Found
             Number::Is(client, more) => read_fields(s, more, kind, client as u8),
         },
     }
+}
+
+// The place after what was found; a fault leaves the place as it is.
+fn place_after(found: Found, place: usize) -> usize
+    ensures { λ r. ⌜ r ≡ placeAfter found place ⌝ }
+{
+    match found {
+        Found::At(_, next) => next,
+        Found::Fault(_) => place,
+    }
+}
+
+impl<'a> ReadingHead<'a> {
+    // Takes the entry at the head's place, and moves on to the place after it.
+    pub fn take<'s>(&'s mut self) -> Found
+        ensures { λ r. ⌜ (r ≡ underHead (now (self .entry))) × (now (self .exit) ≡ headAfter (now (self .entry))) ⌝ }
+    {
+        let place = self.place;
+        let found = read_entry(self.bytes, place);
+        self.place = place_after(found, place);
+        found
+    }
+}
+
+// The entry at a place of the bytes, taken by a reading head. Its parameters are plain, so whoever calls it needs no head.
+pub fn entry_at(s: &[u8], at: usize) -> Found
+    ensures { λ r. ⌜ r ≡ entryAt (now (s .entry)) at ⌝ }
+{
+    let mut head = ReadingHead {
+        bytes: s,
+        place: at,
+    };
+    head.take()
 }
 
 // What a client has open. The array is a parameter, so that its length is known.

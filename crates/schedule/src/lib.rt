@@ -142,7 +142,7 @@ fn start_of(rack: Rack) -> Start
 {
     let mut free = [0u64; 4];
     let mut i: usize = 0;
-    while i < 256 {
+    while i < Rack::SLOTS {
         let slot = rack.wire[i];
         let held = slot.held;
         slots::mark(&mut free, i, is_empty(held));
@@ -155,7 +155,7 @@ fn start_of(rack: Rack) -> Start
 }
 
 // Says how long a rack's arrays are: only of a parameter does the check know it.
-fn lengths(wire: [Slot; 256], parties: [Party; 8]) -> usize
+fn lengths(wire: [Slot; Rack::SLOTS], parties: [Party; 8]) -> usize
     ensures { λ r. ⌜ (length wire ≡ 256) × (length parties ≡ 8) ⌝ }
 {
     0
