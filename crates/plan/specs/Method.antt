@@ -10,6 +10,7 @@ use Rattle.record.specs.declared.Cell.{Cell}
 use Rattle.record.specs.declared.Entry.{Entry}
 use Rattle.record.specs.declared.Entry.the-variants.{ReadAsked, WriteAsked, Told, Done}
 use Rattle.quorum.specs.Sets.{hasReplica, withReplica, asksEnough, keepsEnough}
+use Rattle.plan.specs.declared.Stamp.{Stamp}
 use Rattle.plan.specs.declared.Pair.{Pair}
 use Rattle.plan.specs.declared.Body.{Body}
 use Rattle.plan.specs.declared.Body.the-variants.{Ask, Tell, Keep, Kept}
@@ -37,10 +38,14 @@ pub data Holds (set : ℕ) (held told after : Pair) : Type 0 where
   first : set ≡ 0 → after ≡ told → Holds set held told after
   later : set ≢ 0 → Raised held told after → Holds set held told after
 
--- the pair of a write: (held number + 1, own rank) and the new value
+-- the stamp t of a write of client c that holds the stamp s: (held number + 1, own rank)
+pub record Follows (c : ℕ) (s t : Stamp) : Type 0 where
+  pub number : t .number ≡ s .number + 1
+  pub rank : t .rank ≡ c
+
+-- the pair of a write: that stamp and the new value
 pub record Written (client : ℕ) (v : ℤ) (held chosen : Pair) : Type 0 where
-  pub number : chosen .stamp .number ≡ held .stamp .number + 1
-  pub rank : chosen .stamp .rank ≡ client
+  pub stamp : Follows client (held .stamp) (chosen .stamp)
   pub value : chosen .value ≡ v
 
 -- the pair that is kept: for a read the held one

@@ -154,7 +154,7 @@ module _ (s : Sight) where
       phase-does e Read q = rw q at (keeps-does e (h .after) (rw q refl))
       phase-does e (Write v) q =
           either It (eqb (h .after .stamp .number) 4294967295) _ _ (λ z. tt)
-          (λ z. rw q at (keeps-does e (written (m .client) v (h .after)) (rw q (record { number = refl; rank = refl; value = refl }))))
+          (λ z. rw q at (keeps-does e (written (m .client) v (h .after)) (rw q (record { stamp = record { number = refl; rank = refl }; value = refl }))))
 
       tell-counts-does : It (tellCounts s m (h .cell) (h .goal) told-set (h .after))
       unfolding tellCounts

@@ -34,16 +34,16 @@ use Rattle.schedule.specs.Sending.{slotAfter, cleared-is, Sending, sendi
 
 -- ---- the rack after a plan, in parts
 
-cleared-long : (b : Bool) (j : ℕ) (w : List Slot) → length (cleared b j w) ≡ length w
+pub cleared-long : (b : Bool) (j : ℕ) (w : List Slot) → length (cleared b j w) ≡ length w
 unfolding cleared
 cleared-long true j w = length-set w j empty
 cleared-long false j w = refl
 
-applied-wire : (r : Rack) (e : Event) (p : Plan) → length (appliedOf r e p .wire) ≡ length (r .wire)
+pub applied-wire : (r : Rack) (e : Event) (p : Plan) → length (appliedOf r e p .wire) ≡ length (r .wire)
 unfolding appliedOf
 applied-wire r e p = sent-long _ (addressed (p .message) (membersOf (r .sizes .replicas) (p .to))) ∙ cleared-long (p .clear) (slotOf e) (r .wire)
 
-applied-parties : (r : Rack) (e : Event) (p : Plan) → length (appliedOf r e p .parties) ≡ length (r .parties)
+pub applied-parties : (r : Rack) (e : Event) (p : Plan) → length (appliedOf r e p .parties) ≡ length (r .parties)
 unfolding appliedOf
 applied-parties r e p = length-set (r .parties) (lookedClient r e) (p .party)
 

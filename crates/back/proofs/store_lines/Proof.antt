@@ -1,0 +1,66 @@
+-- `back::store_lines` meets its contract. The invariant: the rows of the first i lines are stored. Assumes nothing.
+use Prim.Native.Nat.{_-_}
+use native.Mathlib.Omega.{arith}
+use borrow.Author.Needs.{needs}
+use Rattle.back.specs.Lines.{Stored, stored-none, stored-long, stored-next, stored-all}
+use Rattle.back.proofs.store_lines.Statement.{statement}
+use Rattle.back.proofs.store_lines.Tie as tie
+
+abbrev Inv-loop : tie.InvT-loop
+Inv-loop n rows₀ lines i₀ rows i = Stored rows₀ lines n rows i
+
+abbrev μ-loop : tie.MeasureT-loop
+μ-loop n rows₀ lines i₀ rows i = n - i
+
+loop-holds : tie.Need-loop-holds Inv-loop μ-loop
+loop-holds c = stored-none _ _ _
+
+mul-line : tie.Need-mul-line Inv-loop μ-loop
+mul-line c = search needs
+
+array-copy-out-line : tie.Need-array-copy-out-line Inv-loop μ-loop
+array-copy-out-line c = search needs
+
+mul-put-row : tie.Need-mul-put-row Inv-loop μ-loop
+mul-put-row c = search needs
+
+row-of-requires : tie.Need-row-of-requires Inv-loop μ-loop
+row-of-requires c κs = search needs
+
+put-row-requires : tie.Need-put-row-requires Inv-loop μ-loop
+put-row-requires c κs = omega (arith, stored-long (c .before .before .before .before .loop .inv), c .before .before .before .loop-test .taken)
+
+add-i : tie.Need-add-i Inv-loop μ-loop
+add-i c = search needs
+
+loop-less : tie.Need-loop-less Inv-loop μ-loop
+loop-less c = search needs
+
+loop-again : tie.Need-loop-again Inv-loop μ-loop
+loop-again c =
+    stored-next (c .before .before .before .before .before .before .before .loop .inv) _ _ _ (c .before .before .before .before .before .before .loop-test .taken) (search needs)
+    (c .before .before .before .row-of .ensures) (c .before .before .put-row .ensures)
+
+same-length : tie.Need-same-length Inv-loop μ-loop
+same-length c = stored-long (c .before .loop .inv)
+
+returns : tie.Need-returns Inv-loop μ-loop
+returns c = stored-all (c .before .loop .inv) (search needs)
+
+pub store-lines-spec : {M : Type 1} → statement M
+store-lines-spec =
+    tie.close
+    (tie.spec
+    Inv-loop
+    μ-loop
+    loop-holds
+    mul-line
+    array-copy-out-line
+    mul-put-row
+    row-of-requires
+    put-row-requires
+    add-i
+    loop-less
+    loop-again
+    same-length
+    returns)

@@ -1,0 +1,97 @@
+-- The record of a rack and its clients agree: what the record leaves open is what the clients are at. The paper: "The rack", "What each event
+-- does", and the faults 24 to 28 of "The record and its bytes".
+use Prim.Native.Nat.{ℕ, _≤_, _<_}
+use mathlib.Core.Path.{_≡_}
+use mathlib.Core.List.{List, [], _∷_}
+use lib.ListN.{getD, length}
+use mir.Syntax.{w32}
+use mir.Val.{SFits}
+use Rattle.record.specs.declared.Entry.{Entry}
+use Rattle.record.specs.declared.Entry.the-variants.{ReadAsked, WriteAsked, Told, Done}
+use Rattle.record.specs.Record.{entryLimit, fresh}
+use Rattle.record.specs.Legal.{Follows}
+use Rattle.law.specs.Steps.{has}
+use Rattle.law.specs.Operations.{standing}
+use Rattle.plan.specs.declared.Pair.{Pair}
+use Rattle.plan.specs.declared.Body.{Body}
+use Rattle.plan.specs.declared.Body.the-variants.{Ask, Tell, Keep, Kept}
+use Rattle.plan.specs.declared.Held.{Held}
+use Rattle.plan.specs.declared.Held.the-variants.{Empty, Full}
+use Rattle.plan.specs.declared.Goal.{Goal}
+use Rattle.plan.specs.declared.Goal.the-variants.{Read, Write}
+use Rattle.plan.specs.declared.Work.{Work}
+use Rattle.plan.specs.declared.Work.the-variants.{Idle, Asking, Keeping}
+use Rattle.rack.specs.declared.Sizes.{Sizes}
+use Rattle.rack.specs.declared.Rack.{Rack}
+use Rattle.plan.specs.Stamp.{freshPair}
+use Rattle.rack.specs.Places.{partyAt, heldAt, recordOf}
+
+-- ---- what is open
+
+-- an open operation as the record counts it: a read is 1, a write 2
+abbrev pub openFor : Goal → ℕ
+openFor Read = 1
+openFor (Write v) = 2
+
+-- nothing is 0
+abbrev pub openIn : Work → ℕ
+openIn Idle = 0
+openIn (Asking cell goal set held) = openFor goal
+openIn (Keeping cell goal set held) = openFor goal
+
+-- ---- entries
+
+-- the rack has the entry's client and cell, and its value is one of 32 bits
+abbrev pub Within : Sizes → Entry → Type 0
+Within z (ReadAsked client cell) = (client .0 < z .clients) × (cell .0 < z .cells)
+Within z (WriteAsked client cell v) = (client .0 < z .clients) × (cell .0 < z .cells) × SFits w32 v
+Within z (Told client v) = (client .0 < z .clients) × SFits w32 v
+Within z (Done client) = client .0 < z .clients
+
+abbrev pub AllWithin : Sizes → List Entry → Type 0
+AllWithin z [] = Unit {0}
+AllWithin z (e ∷ es) = Within z e × AllWithin z es
+
+-- ---- values of 32 bits
+
+abbrev pub PairSmall : Pair → Type 0
+PairSmall p = SFits w32 (p .value)
+
+abbrev pub BodySmall : Body → Type 0
+BodySmall Ask = Unit {0}
+BodySmall (Tell p) = PairSmall p
+BodySmall (Keep p) = PairSmall p
+BodySmall Kept = Unit {0}
+
+abbrev pub HeldSmall : Held → Type 0
+HeldSmall Empty = Unit {0}
+HeldSmall (Full m) = BodySmall (m .body)
+
+abbrev pub GoalSmall : Goal → Type 0
+GoalSmall Read = Unit {0}
+GoalSmall (Write v) = SFits w32 v
+
+abbrev pub WorkSmall : Work → Type 0
+WorkSmall Idle = Unit {0}
+WorkSmall (Asking cell goal set held) = GoalSmall goal × PairSmall held
+WorkSmall (Keeping cell goal set held) = PairSmall held
+
+-- every value that a read could be told, wherever it now is
+pub record Small (r : Rack) : Type 0 where
+  pub pairs : (i : ℕ) → PairSmall (getD (r .pairs) i freshPair)
+  pub wire : (i : ℕ) → HeldSmall (heldAt r i)
+  pub works : (i : ℕ) → WorkSmall (partyAt r i .work)
+
+-- ---- the whole rack
+
+-- The arrays of clients and lines are whole; the record has `count` entries, all of this rack and none a 26 or 27 after those before it; and each
+-- client is at what the record leaves it open.
+pub record Agrees (r : Rack) : Type 0 where
+  pub parties : length (r .parties) ≡ 8
+  pub lines : length (r .lines) ≡ entryLimit
+  pub count : length (recordOf r) ≡ r .count
+  pub most : r .count ≤ entryLimit
+  pub small : Small r
+  pub within : AllWithin (r .sizes) (recordOf r)
+  pub follows : Follows fresh (recordOf r)
+  pub stands : (i : ℕ) → i < r .sizes .clients → has (standing (recordOf r)) i ≡ openIn (partyAt r i .work)

@@ -1,0 +1,77 @@
+// What a rack writes down reads back, and the judge takes it: theorems on the engine's record in specs/, and the call that writes it.
+ghost use mathlib.Core.Path.{_≡_};
+ghost use Prim.Native.Nat.{_+_, _*_, _≤_};
+ghost use lib.ListN.{length};
+ghost use lib.Seq.{sets};
+ghost use Rattle.record.specs.Entry.{rowOf};
+ghost use Rattle.record.specs.Record.{rowsOf, writeOutcome, Leaves};
+ghost use Rattle.rack.specs.Places.{recordOf};
+ghost use Rattle.back.specs.Lines.{entriesOf};
+use rack::Line;
+use rack::Rack;
+use record::Answer;
+use record::ENTRY_LIMIT;
+use record::Entry;
+
+// An entry as a row of four numbers; a field that its kind hasn't got stands as 0.
+fn row_of(e: Entry) -> [u32; 4]
+    ensures { λ r. ⌜ r ≡ rowOf e ⌝ }
+{
+    match e {
+        Entry::ReadAsked(client, cell) => [0, client.0 as u32, cell.0 as u32, 0],
+        Entry::WriteAsked(client, cell, v) => [
+            1,
+            client.0 as u32,
+            cell.0 as u32,
+            number::alternating(v),
+        ],
+        Entry::Told(client, v) => [2, client.0 as u32, 0, number::alternating(v)],
+        Entry::Done(client) => [3, client.0 as u32, 0, 0],
+    }
+}
+
+// Four numbers at a place.
+fn put_row(rows: &mut [u32], at: usize, row: [u32; 4])
+    requires { ⌜ at + 4 ≤ length (now rows) ⌝ }
+    ensures { λ r. ⌜ now (rows .exit) ≡ sets (now (rows .entry)) at row ⌝ }
+{
+    rows[at] = row[0];
+    rows[at + 1] = row[1];
+    rows[at + 2] = row[2];
+    rows[at + 3] = row[3];
+}
+
+// The rows of the first n lines.
+fn store_lines(lines: [Line; 2048], n: usize, rows: &mut [u32])
+    requires { ⌜ (n ≤ 2048) × (4 * n ≤ length (now rows)) ⌝ }
+    ensures { λ r. ⌜ now (rows .exit) ≡ sets (now (rows .entry)) 0 (rowsOf (entriesOf n lines)) ⌝ }
+{
+    let mut i: usize = 0;
+    while i < n {
+        let line = lines[i];
+        let entry = line.entry;
+        put_row(rows, 4 * i, row_of(entry));
+        i += 1;
+    }
+}
+
+// How many lines are the record's: a rack that isn't sound may count more than there are.
+fn entries_in(lines: [Line; 2048], count: usize) -> usize
+    ensures { λ r. ⌜ (r ≤ length lines) × ((length lines ≡ 2048) × (entriesOf r lines ≡ entriesOf count lines)) ⌝ }
+{
+    if ENTRY_LIMIT < count {
+        return ENTRY_LIMIT;
+    }
+    count
+}
+
+// Writes a rack's record into lent bytes.
+pub fn write_record_of(rack: Rack, bytes: &mut [u8]) -> Answer
+    ensures { λ r. ⌜ Leaves (writeOutcome (rowsOf (recordOf rack)) (now (bytes .entry))) r (now (bytes .exit)) ⌝ }
+{
+    let lines = rack.lines;
+    let n = entries_in(lines, rack.count);
+    let mut rows = [0u32; 8192];
+    store_lines(lines, n, &mut rows);
+    record::write_record(&rows[..4 * n], bytes)
+}

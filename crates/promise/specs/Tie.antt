@@ -1,0 +1,142 @@
+-- The tie: which view of crate protocol stands for a rack, and what each message on its wire then means. An operation has the number of its start
+-- entry, as in the record.
+use Prim.Native.Nat.{ℕ, _≤_, _<_}
+use mathlib.Core.Path.{_≡_}
+use mathlib.Core.Logic.{_≢_}
+use mathlib.Core.Bool.{Bool, true, false, cond}
+use mathlib.Core.List.{List}
+use lib.Dec.{leb}
+use lib.IntN.{ℤ, pos}
+use lib.ListN.{length}
+use Rattle.record.specs.declared.Cell.{Cell}
+use Rattle.record.specs.Record.{entryLimit}
+use Rattle.law.specs.Operation.{Op as Operation, operations}
+use Rattle.law.specs.Order.{In}
+use Rattle.plan.specs.declared.Pair.{Pair}
+use Rattle.plan.specs.declared.Body.{Body}
+use Rattle.plan.specs.declared.Body.the-variants.{Ask, Tell, Keep, Kept}
+use Rattle.plan.specs.declared.Message.{Message}
+use Rattle.plan.specs.declared.Held.{Held}
+use Rattle.plan.specs.declared.Held.the-variants.{Empty, Full}
+use Rattle.plan.specs.declared.Goal.{Goal}
+use Rattle.plan.specs.declared.Goal.the-variants.{Read, Write}
+use Rattle.plan.specs.declared.Work.{Work}
+use Rattle.plan.specs.declared.Work.the-variants.{Idle, Asking, Keeping}
+use Rattle.rack.specs.declared.Rack.{Rack}
+use Rattle.rack.specs.Places.{partyAt, pairAt, heldAt, recordOf}
+use Rattle.protocol.specs.View.{Setting, Pair as Seen, Op, View}
+use Rattle.protocol.specs.Message.{Tell as Told, Keep as Chose, Kept as Has}
+use Rattle.protocol.specs.Move.{Reached}
+use Rattle.promise.specs.Setting.{stampOf, settingOf}
+
+-- ---- pairs and operations
+
+-- a pair as the view sees it
+abbrev pub pairOf : Pair → Seen
+pairOf p = record { stamp = stampOf (p .stamp); value = p .value }
+
+abbrev pub writes : Goal → Bool
+writes Read = false
+writes (Write v) = true
+
+abbrev pub valueOf : Goal → ℤ
+valueOf Read = pos 0
+valueOf (Write v) = v
+
+-- operation o of a client, not ended: its phase is 1 while it asks and 2 while it keeps
+abbrev pub openWith : ℕ → ℕ → ℕ → Cell → Goal → ℕ → Seen → Op
+openWith phase o client cell goal set held =
+    record {
+      phase = phase;
+      call = record { client = client; cell = cell .0; write = writes goal; value = valueOf goal; start = o };
+      set = set;
+      held = held;
+      stop = 0;
+    }
+
+abbrev pub openAt : ℕ → ℕ → ℕ → Cell → Goal → ℕ → Pair → Op
+openAt phase o client cell goal set held = openWith phase o client cell goal set (pairOf held)
+
+-- ---- clients
+
+-- operation i has ended if it is client c's and has begun
+abbrev pub Past : (ℕ → Op) → ℕ → ℕ → Type 0
+Past ops c i = ops i .call .client ≡ c → 1 ≤ ops i .phase → 3 ≤ ops i .phase
+
+-- operation o is x, and all that client c began before has ended
+abbrev pub Stands : (ℕ → Op) → ℕ → ℕ → Op → Type 0
+Stands ops c o x = (ops o ≡ x) × ((i : ℕ) → i ≢ o → Past ops c i)
+
+-- client c is at this work, with its operation o
+abbrev pub At : (ℕ → Op) → ℕ → ℕ → Work → Type 0
+At ops c o Idle = (i : ℕ) → Past ops c i
+At ops c o (Asking cell goal set held) = Stands ops c o (openAt 1 o c cell goal set held)
+At ops c o (Keeping cell goal set held) = Stands ops c o (openAt 2 o c cell goal set held)
+
+-- ---- messages
+
+-- what a message between the client of operation o and replica k says, about cell x
+abbrev pub Means : Setting → View → ℕ → ℕ → ℕ → Body → Type 0
+Means S v o k x Ask = (1 ≤ v .ops o .phase) × (v .ops o .call .cell ≡ x)
+Means S v o k x (Tell p) = Told S v o k (pairOf p)
+Means S v o k x (Keep p) = Chose v o x (pairOf p)
+Means S v o k x Kept = Has v o k
+
+-- a message on the wire: of an operation number that its client has had, and it means something true; `name` says which operation of the view a client's
+-- operation number is
+abbrev pub OnWire : Setting → View → (ℕ → ℕ → ℕ) → (ℕ → ℕ) → Message → Type 0
+OnWire S v name op m = (m .op ≤ op (m .client .0)) × Means S v (name (m .client .0) (m .op)) (m .replica .0) (m .cell .0) (m .body)
+
+-- what holds of a slot's message
+abbrev pub InSlot : (Message → Type 0) → Held → Type 0
+InSlot P Empty = Unit {0}
+InSlot P (Full m) = P m
+
+-- a client's operation number
+abbrev pub opOf : Rack → ℕ → ℕ
+opOf r c = partyAt r c .op
+
+-- ---- the record
+
+-- operation i as the record shows it
+abbrev pub shown : ℕ → Op → Operation
+shown i x =
+    record {
+      number = i;
+      client = x .call .client;
+      cell = x .call .cell;
+      write = x .call .write;
+      value = cond (x .call .write) (x .call .value) (cond (leb 3 (x .phase)) (x .held .value) (pos 0));
+      start = x .call .start;
+      over = leb 3 (x .phase);
+      stop = x .stop;
+    }
+
+-- the operations of a record are those of the view that have begun
+pub record Book (ops : ℕ → Op) (s : List Operation) : Type 0 where
+  pub begun : (x : Operation) → In x s → 1 ≤ ops (x .number) .phase
+  pub known : (x : Operation) → In x s → x ≡ shown (x .number) (ops (x .number))
+  pub every : (i : ℕ) → 1 ≤ ops i .phase → In (shown i (ops i)) s
+
+-- ---- the tie
+
+-- the arrays have their lengths
+pub record Long (r : Rack) : Type 0 where
+  pub parties : length (r .parties) ≡ 8
+  pub pairs : length (r .pairs) ≡ 240
+  pub lines : length (r .lines) ≡ entryLimit
+
+pub record Tie (r : Rack) (v : View) (name : ℕ → ℕ → ℕ) : Type 0 where
+  pub long : Long r
+  -- legal moves lead to the view
+  pub reached : Reached (settingOf (r .sizes .replicas)) v
+  -- its time is the number of entries
+  pub now : v .now ≡ r .count
+  -- every client is at what its operation is at
+  pub clients : (c : ℕ) → c < r .sizes .clients → At (v .ops) c (name c (opOf r c)) (partyAt r c .work)
+  -- every pair is the view's
+  pub pairs : (k x : ℕ) → k < r .sizes .replicas → x < r .sizes .cells → v .pair k x ≡ pairOf (pairAt r k x)
+  -- every message on the wire means something true
+  pub wire : (i : ℕ) → InSlot (OnWire (settingOf (r .sizes .replicas)) v name (opOf r)) (heldAt r i)
+  -- the record shows the operations
+  pub book : Book (v .ops) (operations (recordOf r))
