@@ -4,6 +4,7 @@ pub mod Plan
 pub mod Places
 pub mod Sound
 pub mod Run
+pub mod Counts
 -- Names for parts of them that the code computes.
 pub mod Sight
 pub mod Parts
@@ -15,4 +16,7 @@ pub mod Owed
 pub mod Decided
 pub mod Refusals
 pub mod Fresh
-pub mod Sheet
+-- What an answer means, and that no other outcome fits a call.
+pub mod Answers
+pub mod PlanOnlyOne
+pub mod OnlyOne
