@@ -1,9 +1,9 @@
 -- No other outcome fits a call: two that both meet its contract answer the same and leave the same bytes, and wrong ones do not meet it.
 use Prim.Native.Nat.{ℕ}
 use mathlib.Core.Path.{_≡_, ap, sym, _∙_}
-use mathlib.Core.List.{List, [], _∷_}
+use mathlib.Core.List.{List}
 use native.Mathlib.Omega.{arith}
-use lib.ListN.{getD, length, replicate}
+use lib.ListN.{getD, replicate}
 use Rattle.record.specs.Wrote.{Wrote}
 use Rattle.verdict.specs.declared.Verdict.{Verdict}
 use Rattle.verdict.specs.declared.Verdict.the-variants.{Lawful, Refused}

@@ -6,10 +6,6 @@ use lib.ListN.{length}
 use borrow.Author.Needs.{needs}
 use Rattle.bench.proofs.fill.Statement.{statement}
 use Rattle.bench.proofs.fill.Tie as tie
-use Rattle.bench.proofs.fill.Reads as reads
-use Rattle.bench.proofs.fill.Lts as lts
-use Rattle.rack.proofs.Rack.made.Reads as made-reads
-use Rattle.schedule.proofs.run.Reads as run-reads
 
 abbrev Inv-loop : tie.InvT-loop
 Inv-loop events₀ i₀ events i = (i ≤ 243) × (length events ≡ 972)

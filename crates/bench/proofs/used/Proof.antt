@@ -4,9 +4,6 @@ use native.Mathlib.Omega.{arith}
 use borrow.Author.Needs.{needs}
 use Rattle.bench.proofs.used.Statement.{statement}
 use Rattle.bench.proofs.used.Tie as tie
-use Rattle.bench.proofs.used.Reads as reads
-use Rattle.bench.proofs.used.Lts as lts
-use Rattle.bench.proofs.messages.Reads as messages-reads
 
 abbrev Inv-loop : tie.InvT-loop
 Inv-loop rack count₀ i₀ count i = (count ≤ i) × (i ≤ 256)
