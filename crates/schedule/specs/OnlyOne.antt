@@ -15,7 +15,7 @@ use Rattle.rack.specs.Places.{freeAt, roomOf, sentOf}
 use Rattle.rack.specs.Sound.{sizesFit, owes, owedBy, owedBelow, owed}
 use Rattle.rack.specs.Run.{freshRack, byte, eventOf, inRack, slotOf, clientIn, placeIn, clientOf, noted, freed, checked, decided, addressed, cleared, recorded, entriesIn, appliedOf, turn, ranOf, runFrom, runOf}
 use Rattle.rack.specs.Fresh.{fresh-sound}
-use Rattle.schedule.specs.Steps.{Exact, run-steps, sound-from}
+use Rattle.schedule.specs.Steps.{run-steps, sound-from}
 
 -- ---- run, step
 
@@ -76,9 +76,9 @@ not-all-at-once q p h = omega (arith, begun q p .count)
 pub not-the-allowance : (q : Ran) → Starts q → q .done ≡ 5 → ⊥
 not-the-allowance q p h = omega (arith, begun q p .done)
 
--- and for every run: with another number of events done the rack isn't the one that so many events leave
-pub not-invented : (s : Rack) (allowance : ℕ) (ws : List ℕ) (q : Ran) → q ≡ runOf s allowance ws → runOf s (q .done) ws ≡ ranOf (q .done) 0 (q .rack)
-not-invented s allowance ws q p = rw p (run-steps s allowance ws .same)
+-- and for every run: just as many events as it says leave the rack that it gives
+pub done-leaves : (s : Rack) (allowance : ℕ) (ws : List ℕ) (q : Ran) → q ≡ runOf s allowance ws → runOf s (q .done) ws ≡ ranOf (q .done) 0 (q .rack)
+done-leaves s allowance ws q p = rw p (run-steps s allowance ws .same)
 
 -- ---- a delivery from a slot that is empty
 
