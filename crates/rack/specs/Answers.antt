@@ -1,26 +1,8 @@
--- What an outcome and an event mean, case by case: the refusal by the paper's number, and what is asked for.
+-- What an event means, case by case: its kind, and what it names.
 use Prim.Native.Nat.{ℕ}
 use Rattle.number.specs.Value.{alternatingOf}
 use Rattle.rack.specs.declared.Event.{Event}
 use Rattle.rack.specs.declared.Event.the-variants.{StartRead, StartWrite, Deliver, Lose, Copy, Resend, Stop, Off, On, Unknown}
-use Rattle.rack.specs.declared.Outcome.{Outcome}
-use Rattle.rack.specs.declared.Outcome.the-variants.{No, Go}
-use Rattle.rack.specs.Run.{entriesIn}
-
--- the refusal; 0 where the event is done
-unfoldable pub refusalIn : Outcome → ℕ
-refusalIn (No k) = k
-refusalIn (Go p) = 0
-
--- the set of replicas that its message goes to; the empty one where nothing is sent
-unfoldable pub sentTo : Outcome → ℕ
-sentTo (No k) = 0
-sentTo (Go p) = p .to
-
--- how many entries the record gets
-unfoldable pub addedIn : Outcome → ℕ
-addedIn (No k) = 0
-addedIn (Go p) = entriesIn (p .note)
 
 -- an event's kind, as the first of its four words has it; 9 for what is no event
 unfoldable pub kindIn : Event → ℕ

@@ -17,6 +17,7 @@ pub mod Decided
 pub mod Refusals
 pub mod Fresh
 -- What an answer means, and that no other outcome fits a call.
+pub mod PlanAnswers
 pub mod Answers
 pub mod PlanOnlyOne
 pub mod OnlyOne

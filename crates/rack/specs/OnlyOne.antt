@@ -29,7 +29,8 @@ use Rattle.rack.specs.Sound.{sizesFit, pairFits, bodyFits, messageFits, 
 use Rattle.rack.specs.Owed.{owedIn}
 use Rattle.rack.specs.Run.{freshRack, madeOf, byte, eventOf, inRack, slotOf, clientIn, placeIn, clientOf, noted, freed, checked}
 use Rattle.rack.specs.Fresh.{fresh-sound}
-use Rattle.rack.specs.Answers.{refusalIn, kindIn, firstIn, cellIn, valueIn}
+use Rattle.rack.specs.PlanAnswers.{refusalIn}
+use Rattle.rack.specs.Answers.{kindIn, firstIn, cellIn, valueIn}
 use Rattle.rack.specs.PlanOnlyOne.{yes-not-no, pairOf, SameOutcome, one-outcome}
 
 -- Every call here but `checked`, `decode` and `made` answers yes or no, or a number: two answers that are both what is stated are the same by `one-answer`
@@ -73,7 +74,7 @@ pub not-cell-1 : (r : Bool) → r ≡ inRack sizes (StartRead (record { 0 = 1 })
 unfolding inRack
 not-cell-1 r p q = yes-not-no q p
 
--- ---- slot_of, client_in, place_in, client_of
+-- ---- slot_of, place_in, client_of
 
 -- a keep from client 1 to replica 2 about cell 3
 abbrev message : Message
@@ -86,14 +87,6 @@ not-slot-0 r p q = omega arith
 pub not-next-slot : (r : ℕ) → r ≡ slotOf (Deliver 5) → r ≡ 6 → ⊥
 unfolding slotOf
 not-next-slot r p q = omega arith
-
-pub not-client-0 : (r : ℕ) → r ≡ clientIn (Full message) → r ≡ 0 → ⊥
-unfolding clientIn
-not-client-0 r p q = omega arith
-
-pub not-its-replica : (r : ℕ) → r ≡ clientIn (Full message) → r ≡ 2 → ⊥
-unfolding clientIn
-not-its-replica r p q = omega arith
 
 -- the pair of replica 2 for cell 3 stands at 35, that of replica 3 for cell 2 at 50
 pub not-swapped : (r : ℕ) → r ≡ placeIn (Full message) → r ≡ 50 → ⊥
@@ -135,7 +128,7 @@ pub not-past-2048 : (r : Outcome) → r ≡ checked (sending false (Asked (Done 
 unfolding checked noted refusalIn
 not-past-2048 r p q = let e : refusalIn r ≡ 11 = ap refusalIn p in omega arith
 
--- ---- sizes_in, sizes_fit
+-- ---- sizes_in
 
 pub not-16-replicas : (r : Bool) → r ≡ sizesFit (record { replicas = 16; clients = 8; cells = 16 }) → r ≡ true → ⊥
 unfolding sizesFit
@@ -145,7 +138,7 @@ pub not-15-too-many : (r : Bool) → r ≡ sizesFit (record { replicas = 15; cli
 unfolding sizesFit
 not-15-too-many r p q = yes-not-no p q
 
--- ---- pair_fits, body_fits, message_fits, held_fits
+-- ---- Rack::sound, part by part: pairs, messages, slots
 
 -- of two clients there is no rank 2, and there is a rank 1
 pub not-rank-2 : (r : Bool) → r ≡ pairFits sizes (pairOf 1 2 5) → r ≡ true → ⊥
@@ -184,7 +177,7 @@ pub not-held-replica-3 : (r : Bool) → r ≡ heldFits sizes (Full (asks 3)) →
 unfolding heldFits messageFits
 not-held-replica-3 r p q = yes-not-no q p
 
--- ---- work_fits
+-- ---- open operations
 
 -- an ask phase in which these have told
 abbrev told : ℕ → Work
@@ -226,7 +219,7 @@ pub not-none-owes : (r : ℕ) → r ≡ owedIn 3 (partyAt 1 (told 0b001) ∷ idl
 unfolding owedIn owedBy owes
 not-none-owes r p q = let e : r ≡ 1 = p in omega arith
 
--- ---- Rack::sound
+-- ---- the whole rack
 
 pub not-fresh-unsound : (r : Bool) → r ≡ soundOf (freshRack 15 8 16) → r ≡ false → ⊥
 unfolding sizesFit

@@ -5,6 +5,8 @@ use mathlib.Core.Bool.{Bool, true, false}
 use native.Mathlib.Omega.{arith}
 use lib.Count.{ones}
 use lib.IntN.{pos}
+use Rattle.record.specs.declared.Entry.{Entry}
+use Rattle.record.specs.declared.Entry.the-variants.{ReadAsked}
 use Rattle.quorum.specs.Sets.{setBits, hasReplica, withReplica, majority, asksEnough, everyReplica}
 use Rattle.rack.specs.declared.Stamp.{Stamp}
 use Rattle.rack.specs.declared.Pair.{Pair}
@@ -16,12 +18,12 @@ use Rattle.rack.specs.declared.Work.{Work}
 use Rattle.rack.specs.declared.Work.the-variants.{Idle, Asking}
 use Rattle.rack.specs.declared.Event.{Event}
 use Rattle.rack.specs.declared.Event.the-variants.{StartRead, Deliver, Resend}
+use Rattle.rack.specs.declared.Note.the-variants.{Nothing, Asked, Ended}
 use Rattle.rack.specs.declared.Outcome.{Outcome}
 use Rattle.rack.specs.Stamp.{stampLess, raised, freshPair}
 use Rattle.rack.specs.Plan.{Sight, messageOf, partyAt, started, startIn, startOf, current, keepsOf, phaseEnds, tellCounts, tellIn, tellOf, deliverIn, deliverOf, resendIn, resendOf, ofSlot, planOf}
-use Rattle.rack.specs.Run.{entriesIn}
 use Rattle.rack.specs.Sight.{sightOf}
-use Rattle.rack.specs.Answers.{refusalIn, sentTo, addedIn}
+use Rattle.rack.specs.PlanAnswers.{refusalIn, sentTo, noteIn}
 
 -- two answers that are both what is stated are the same
 pub one-answer : {A : Type 0} (o r r′ : A) → r ≡ o → r′ ≡ o → r ≡ r′
@@ -112,18 +114,22 @@ pub not-start-unsent : (r : Outcome) → r ≡ planOf (three Idle) Empty (StartR
 unfolding planOf startOf startIn started everyReplica setBits sentTo
 not-start-unsent r p q = let e : sentTo r ≡ 7 = ap sentTo p in omega arith
 
-pub not-start-unrecorded : (r : Outcome) → r ≡ planOf (three Idle) Empty (StartRead (record { 0 = 0 }) (record { 0 = 0 })) → addedIn r ≡ 0 → ⊥
-unfolding planOf startOf startIn started addedIn entriesIn
-not-start-unrecorded r p q = let e : addedIn r ≡ 1 = ap addedIn p in omega arith
+pub not-start-unrecorded : (r : Outcome) → r ≡ planOf (three Idle) Empty (StartRead (record { 0 = 0 }) (record { 0 = 0 })) → noteIn r ≡ Nothing → ⊥
+unfolding planOf startOf startIn started noteIn
+not-start-unrecorded r p q =
+    let e : noteIn r ≡ Asked (ReadAsked (record { 0 = 0 }) (record { 0 = 0 })) = ap noteIn p in
+    let z : _≡_ {A = ℕ} 0 1 = cc in omega arith
 
 -- at a majority of tells a keep goes to every replica and not to the two that told, and the read doesn't end
 pub not-keep-to-few : (r : Outcome) → r ≡ planOf (three asking) telling (Deliver 0) → sentTo r ≡ 0b011 → ⊥
 unfolding planOf ofSlot deliverOf deliverIn tellOf current tellIn hasReplica withReplica setBits tellCounts asksEnough majority ones phaseEnds keepsOf everyReplica sentTo
 not-keep-to-few r p q = let e : sentTo r ≡ 7 = ap sentTo p in omega arith
 
-pub not-read-unkept : (r : Outcome) → r ≡ planOf (three asking) telling (Deliver 0) → addedIn r ≡ 1 → ⊥
-unfolding planOf ofSlot deliverOf deliverIn tellOf current tellIn hasReplica withReplica setBits tellCounts asksEnough majority ones phaseEnds keepsOf addedIn entriesIn
-not-read-unkept r p q = let e : addedIn r ≡ 0 = ap addedIn p in omega arith
+pub not-read-unkept : (r : Outcome) (entry : Entry) → r ≡ planOf (three asking) telling (Deliver 0) → noteIn r ≡ Ended entry → ⊥
+unfolding planOf ofSlot deliverOf deliverIn tellOf current tellIn hasReplica withReplica setBits tellCounts asksEnough majority ones phaseEnds keepsOf noteIn
+not-read-unkept r entry p q =
+    let e : noteIn r ≡ Nothing = ap noteIn p in
+    let z : _≡_ {A = ℕ} 0 1 = cc in omega arith
 
 -- with no operation open there is nothing to send again
 pub not-resend-idle : (r : Outcome) → r ≡ planOf (three Idle) Empty (Resend (record { 0 = 0 })) → refusalIn r ≡ 0 → ⊥
