@@ -12,7 +12,7 @@ use Rattle.plan.specs.declared.Party.{Party}
 use Rattle.plan.specs.declared.Event.{Event}
 use Rattle.plan.specs.declared.Event.the-variants.{StartRead, StartWrite, Deliver, Lose, Copy, Resend, Stop, Off, On, Unknown}
 use Rattle.plan.specs.declared.Plan.{Plan}
-use Rattle.rack.specs.Sheet.{sentBy}
+use Rattle.rack.specs.Counts.{sentBy}
 use Rattle.counts.specs.Counts.{isRequest, requestOf, requestsBy, resentBy, costIn, costOf}
 
 -- ---- a message's part in the requests for an operation

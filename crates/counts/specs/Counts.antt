@@ -20,7 +20,7 @@ use Rattle.plan.specs.declared.Event.the-variants.{StartRead, StartWrite, Deliv
 use Rattle.plan.specs.declared.Plan.{Plan}
 use Rattle.rack.specs.Places.{slotLimit, freeAt}
 use Rattle.rack.specs.Run.{runOf}
-use Rattle.rack.specs.Sheet.{sentBy, deliveredBy, countOver}
+use Rattle.rack.specs.Counts.{sentBy, deliveredBy, countOver}
 
 -- ---- slots in use
 

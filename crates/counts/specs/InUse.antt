@@ -20,7 +20,7 @@ use Rattle.rack.specs.Places.{empty, freeAt, roomOf}
 use Rattle.rack.specs.Sound.{soundOf}
 use Rattle.rack.specs.Run.{slotOf, freed, decided, addressed, cleared, appliedOf, freshRack, madeOf, runOf}
 use Rattle.rack.specs.Decided.{Decided, decided-fits}
-use Rattle.rack.specs.Sheet.{sentBy, deliveredBy}
+use Rattle.rack.specs.Counts.{sentBy, deliveredBy}
 use Rattle.schedule.specs.Sending.{cleared-room, sent-room}
 use Rattle.schedule.specs.Stays.{sound-stays}
 use Rattle.schedule.specs.Loop.{applied-wire, cleared-long}

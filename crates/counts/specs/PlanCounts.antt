@@ -39,7 +39,7 @@ use Rattle.plan.specs.About.{clientIn, clientOf}
 use Rattle.rack.specs.Run.{freed, checked, decided}
 use Rattle.rack.specs.SoundLaws.{Sound, sound-of, named}
 use Rattle.rack.specs.Decided.{lookedHeld, lookedClient, lookedParty, lookedPair, checked-go, Decided, decided-fits}
-use Rattle.rack.specs.Sheet.{sentBy, deliveredBy}
+use Rattle.rack.specs.Counts.{sentBy, deliveredBy}
 use Rattle.counts.specs.Costing.{requests-else, requests-own, none-sent, silent, answers, start-cost, phase-cost, same-cost}
 use Rattle.counts.specs.Counts.{copiedBy, lostBy, isRequest, requestsBy, resentBy, costIn, costOf, endsBy}
 

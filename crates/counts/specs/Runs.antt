@@ -15,7 +15,7 @@ use Rattle.rack.specs.declared.Ran.{Ran}
 use Rattle.rack.specs.declared.Made.{Made}
 use Rattle.rack.specs.Sound.{sizesFit, soundOf}
 use Rattle.rack.specs.Run.{eventOf, decided, appliedOf, turn, ranOf, runFrom, runOf, freshRack, madeOf}
-use Rattle.rack.specs.Sheet.{counted, countOver}
+use Rattle.rack.specs.Counts.{counted, countOver}
 use Rattle.schedule.specs.Steps.{sound-from, run-steps}
 use Rattle.counts.specs.Counts.{countOf}
 

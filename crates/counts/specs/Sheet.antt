@@ -13,7 +13,7 @@ use Rattle.rack.specs.Places.{freeAt, roomOf, sentOf, recordOf}
 use Rattle.rack.specs.Sound.{allBelow, sizesFit, pairFits, bodyFits, messageFits, heldFits, workFits, owes, owedBy, owedBelow, owed, wireFits, pairsFit, partiesFit, recordFits, soundOf}
 use Rattle.plan.specs.About.{clientIn, clientOf}
 use Rattle.rack.specs.Run.{freshRack, byte, eventOf, inRack, slotOf, placeIn, noted, freed, checked, decided, addressed, cleared, recorded, entriesIn, appliedOf, turn, runFrom, runOf}
-use Rattle.rack.specs.Sheet.{sentBy, deliveredBy, counted, countOver}
+use Rattle.rack.specs.Counts.{sentBy, deliveredBy, counted, countOver}
 use Rattle.counts.specs.Counts.{inUse, copiedBy, lostBy, countOf, tallyOf, isRequest, requestOf, requestsBy, endsBy, endsOf}
 
 -- client 0 starts a write of 9, which stands as 18, to cell 0; slots 0, 1, 0, 1 are delivered, and again

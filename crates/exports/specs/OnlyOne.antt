@@ -8,8 +8,9 @@ use Rattle.number.specs.Number.{numberAt, putAnswer, putBytes}
 use Rattle.number.specs.Sheet.{read-80-00, read-80}
 use Rattle.record.specs.declared.Answer.the-variants.{All, Refused as Unread}
 use Rattle.record.specs.Record.{readOutcome, writeOutcome}
+use Rattle.record.specs.Sheet.{sheetBytes}
 use Rattle.verdict.specs.OnlyOne.{one-verdict}
-use Rattle.verdict.specs.Bench.{twelve, stale, twelve-verdict, stale-verdict}
+use Rattle.verdict.specs.Bench.{stale, twelve-verdict, stale-verdict}
 use Rattle.exports.specs.Packed.{packedNumber, packedPut, packedAnswer, packedVerdict, Judged}
 
 -- ---- unpacking
@@ -55,7 +56,7 @@ unfolding packedNumber
 not-cut-zero r p q = let e = sym q ∙ p ∙ ap (packedNumber 0) read-80 in omega arith
 
 -- the paper's twelve bytes are lawful, and with last byte 00 they aren't
-pub not-refused : (r : ℕ) → Judged twelve r → 0 < r → ⊥
+pub not-refused : (r : ℕ) → Judged sheetBytes r → 0 < r → ⊥
 unfolding packedVerdict
 not-refused r (v, (j, p)) h = let e = p ∙ ap packedVerdict (twelve-verdict v j) in omega arith
 

@@ -1,10 +1,8 @@
--- Lines of the bench sheet on lawfulness, about the operations of entries, each decided by computing.
-use mathlib.Core.Path.{_≡_, sym}
-use mathlib.Core.Logic.{_≢_}
-use mathlib.Core.List.{List, [], _∷_, _++_}
+-- The bench sheet's record and the same with another last byte: what verdicts on bytes cite, each decided by computing. The sheet's other lines on
+-- lawfulness stand in crate sheet.
+use mathlib.Core.List.{List, [], _∷_}
 use Prim.Native.Nat.{ℕ}
 use lib.IntN.{ℤ, pos}
-use borrow.Author.Tests.{ne-eqb}
 use Rattle.record.specs.declared.Entry.{Entry}
 use Rattle.record.specs.declared.Entry.the-variants.{ReadAsked, WriteAsked, Told, Done}
 use Rattle.law.specs.Operation.{note, notes, operations}
@@ -13,16 +11,17 @@ use Rattle.law.specs.Part.{partFrom, partOf}
 use Rattle.law.specs.Decide.{by-yes, by-no}
 use Rattle.law.specs.Search.{dec-lawful}
 
-abbrev reads : ℕ → ℕ → Entry
+-- entries by the numbers in them
+abbrev pub reads : ℕ → ℕ → Entry
 reads client cell = ReadAsked (record { 0 = client }) (record { 0 = cell })
 
-abbrev writes : ℕ → ℕ → ℤ → Entry
+abbrev pub writes : ℕ → ℕ → ℤ → Entry
 writes client cell value = WriteAsked (record { 0 = client }) (record { 0 = cell }) value
 
-abbrev told : ℕ → ℤ → Entry
+abbrev pub told : ℕ → ℤ → Entry
 told client value = Told (record { 0 = client }) value
 
-abbrev done : ℕ → Entry
+abbrev pub done : ℕ → Entry
 done client = Done (record { 0 = client })
 
 -- no entries
@@ -42,58 +41,7 @@ good-lawful = by-yes (dec-lawful (operations good)) tt
 abbrev pub bad : List Entry
 bad = writes 0 2 (pos 5) ∷ done 0 ∷ reads 1 2 ∷ told 1 (pos 0) ∷ []
 
-pub bad-unlawful : ¬ Lawful (operations bad)
-unfolding operations notes note dec-lawful
-bad-unlawful = by-no (dec-lawful (operations bad)) tt
-
--- unlawful cell 2: its part is not lawful, and that of every other cell is
+-- the part of cell 2 is not lawful
 pub bad-cell : ¬ Lawful (operations (partOf 2 bad))
 unfolding operations notes note partOf partFrom dec-lawful
 bad-cell = by-no (dec-lawful (operations (partOf 2 bad))) tt
-
-pub bad-others : (c : ℕ) → c ≢ 2 → Lawful (operations (partOf c bad))
-unfolding partOf partFrom
-bad-others c d =
-    let e : partOf c bad ≡ [] = rw (ne-eqb 2 c (λ z. d (sym z))) in
-    rw e empty-lawful
-
--- while a write of 5 is open, client 1 reads 5 and then 0
-abbrev pub back : List Entry
-back = writes 0 2 (pos 5) ∷ reads 1 2 ∷ told 1 (pos 5) ∷ reads 1 2 ∷ told 1 (pos 0) ∷ []
-
-pub back-unlawful : ¬ Lawful (operations back)
-unfolding operations notes note dec-lawful
-back-unlawful = by-no (dec-lawful (operations back)) tt
-
--- 0 and then 5
-abbrev pub forth : List Entry
-forth = writes 0 2 (pos 5) ∷ reads 1 2 ∷ told 1 (pos 0) ∷ reads 1 2 ∷ told 1 (pos 5) ∷ []
-
-pub forth-lawful : Lawful (operations forth)
-unfolding operations notes note dec-lawful
-forth-lawful = by-yes (dec-lawful (operations forth)) tt
-
--- both, where the write is done after them
-pub back-done-unlawful : ¬ Lawful (operations (back ++ (done 0 ∷ [])))
-unfolding operations notes note dec-lawful
-back-done-unlawful = by-no (dec-lawful (operations (back ++ (done 0 ∷ [])))) tt
-
-pub forth-done-lawful : Lawful (operations (forth ++ (done 0 ∷ [])))
-unfolding operations notes note dec-lawful
-forth-done-lawful = by-yes (dec-lawful (operations (forth ++ (done 0 ∷ [])))) tt
-
--- a read of 5 that ends before any write of 5 is asked
-abbrev pub early : List Entry
-early = reads 1 2 ∷ told 1 (pos 5) ∷ writes 0 2 (pos 5) ∷ done 0 ∷ []
-
-pub early-unlawful : ¬ Lawful (operations early)
-unfolding operations notes note dec-lawful
-early-unlawful = by-no (dec-lawful (operations early)) tt
-
--- an unfinished write nobody read
-abbrev pub unread : List Entry
-unread = writes 0 2 (pos 5) ∷ []
-
-pub unread-lawful : Lawful (operations unread)
-unfolding operations notes note dec-lawful
-unread-lawful = by-yes (dec-lawful (operations unread)) tt

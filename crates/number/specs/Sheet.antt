@@ -1,9 +1,7 @@
--- The bench sheet's numbers and values.
+-- Worked examples that the promises of these calls cite. The bench sheet's starred lines stand together in crate sheet.
 use mathlib.Core.List.{[], _∷_}
 use mathlib.Core.Path.{_≡_, refl}
-use lib.IntN.{pos, negsuc}
 use Rattle.number.specs.Number.{groupsOf, numberBytes, taken, lastOf, valueOf, numberOf, numberAt}
-use Rattle.number.specs.Value.{alternatingOf}
 use Rattle.number.specs.declared.Number.the-variants.{Is, Refused}
 
 pub of-127 : numberBytes 127 ≡ 0x7F ∷ []
@@ -13,31 +11,6 @@ of-127 = refl
 pub of-128 : numberBytes 128 ≡ 0x80 ∷ 0x01 ∷ []
 unfolding groupsOf
 of-128 = refl
-
-pub of-300 : numberBytes 300 ≡ 0xAC ∷ 0x02 ∷ []
-unfolding groupsOf
-of-300 = refl
-
-pub of-largest : numberBytes 4294967295 ≡ 0xFF ∷ 0xFF ∷ 0xFF ∷ 0xFF ∷ 0x0F ∷ []
-unfolding groupsOf
-of-largest = refl
-
--- `negsuc n` is -n - 1
-pub value-minus-1 : numberBytes (alternatingOf (negsuc 0)) ≡ 0x01 ∷ []
-unfolding groupsOf alternatingOf
-value-minus-1 = refl
-
-pub value-64 : numberBytes (alternatingOf (pos 64)) ≡ 0x80 ∷ 0x01 ∷ []
-unfolding groupsOf alternatingOf
-value-64 = refl
-
-pub value-minus-64 : numberBytes (alternatingOf (negsuc 63)) ≡ 0x7F ∷ []
-unfolding groupsOf alternatingOf
-value-minus-64 = refl
-
-pub value-lowest : numberBytes (alternatingOf (negsuc 2147483647)) ≡ 0xFF ∷ 0xFF ∷ 0xFF ∷ 0xFF ∷ 0x0F ∷ []
-unfolding groupsOf alternatingOf
-value-lowest = refl
 
 pub read-80-00 : numberAt (0x80 ∷ 0x00 ∷ []) 0 ≡ Refused 22
 unfolding numberAt numberOf taken lastOf valueOf

@@ -9,5 +9,6 @@ pub mod Sight
 -- Laws.
 pub mod Tests
 pub mod MethodLaws
--- No other outcome fits a call.
-pub mod Raising
+-- What an answer means, and that no other outcome fits a call.
+pub mod Answers
+pub mod OnlyOne

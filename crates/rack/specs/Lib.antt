@@ -2,6 +2,7 @@
 pub mod Places
 pub mod Sound
 pub mod Run
+pub mod Counts
 -- Names for parts of them that the code computes.
 pub mod Parts
 -- Laws.
@@ -12,4 +13,6 @@ pub mod Owed
 pub mod Decided
 pub mod Refusals
 pub mod Fresh
-pub mod Sheet
+-- What an answer means, and that no other outcome fits a call.
+pub mod Answers
+pub mod OnlyOne

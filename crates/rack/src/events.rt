@@ -185,7 +185,7 @@ fn place(x: u8) -> usize
 }
 
 // The client that a slot's message is about; 0 where it is empty.
-pub fn client_in(held: Held) -> usize
+fn client_in(held: Held) -> usize
     ensures { λ r. ⌜ r ≡ clientIn held ⌝ }
 {
     match held {

@@ -38,7 +38,7 @@ pub fn sizes_in(replicas: u32, clients: u32, cells: u32) -> bool
     cells <= 16
 }
 
-pub fn sizes_fit(sizes: Sizes) -> bool
+fn sizes_fit(sizes: Sizes) -> bool
     ensures { λ r. ⌜ r ≡ sizesFit sizes ⌝ }
 {
     sizes_in(
@@ -49,14 +49,14 @@ pub fn sizes_fit(sizes: Sizes) -> bool
 }
 
 // A pair names a rank that the rack has.
-pub fn pair_fits(sizes: Sizes, pair: Pair) -> bool
+fn pair_fits(sizes: Sizes, pair: Pair) -> bool
     ensures { λ r. ⌜ r ≡ pairFits sizes pair ⌝ }
 {
     let stamp = pair.stamp;
     stamp.rank < sizes.clients
 }
 
-pub fn body_fits(sizes: Sizes, body: Body) -> bool
+fn body_fits(sizes: Sizes, body: Body) -> bool
     ensures { λ r. ⌜ r ≡ bodyFits sizes body ⌝ }
 {
     match body {
@@ -68,7 +68,7 @@ pub fn body_fits(sizes: Sizes, body: Body) -> bool
 }
 
 // A message names a client, a replica, a cell and a rank that the rack has.
-pub fn message_fits(sizes: Sizes, m: Message) -> bool
+fn message_fits(sizes: Sizes, m: Message) -> bool
     ensures { λ r. ⌜ r ≡ messageFits sizes m ⌝ }
 {
     let client = m.client;
@@ -87,7 +87,7 @@ pub fn message_fits(sizes: Sizes, m: Message) -> bool
     body_fits(sizes, body)
 }
 
-pub fn held_fits(sizes: Sizes, held: Held) -> bool
+fn held_fits(sizes: Sizes, held: Held) -> bool
     ensures { λ r. ⌜ r ≡ heldFits sizes held ⌝ }
 {
     match held {
@@ -137,7 +137,7 @@ fn keep_fits(sizes: Sizes, cell: Cell, set: u16, held: Pair) -> bool
 }
 
 // An open operation names what the rack has; its set has no replica that isn't there, and is no majority.
-pub fn work_fits(sizes: Sizes, work: Work) -> bool
+fn work_fits(sizes: Sizes, work: Work) -> bool
     ensures { λ r. ⌜ r ≡ workFits sizes work ⌝ }
 {
     match work {

@@ -1,16 +1,15 @@
--- The bench sheet's record, and the smallest ones that are refused.
+-- The bench sheet's record, and the smallest ones that are refused: worked examples that the promises of these calls cite.
 use Prim.Native.Nat.{ℕ}
 use mathlib.Core.List.{List, [], _∷_}
 use mathlib.Core.Path.{_≡_, refl}
-use lib.ListN.{length}
 use lib.IntN.{pos}
-use Rattle.number.specs.Number.{groupsOf, taken, lastOf, valueOf, numberOf, numberAt}
+use Rattle.number.specs.Number.{taken, lastOf, valueOf, numberOf, numberAt}
 use Rattle.number.specs.Value.{alternatingOf, signedOf}
 use Rattle.record.specs.declared.Entry.{Entry}
 use Rattle.record.specs.declared.Entry.the-variants.{ReadAsked, WriteAsked, Told, Done}
 use Rattle.record.specs.declared.Found.the-variants.{At, Fault}
-use Rattle.record.specs.Entry.{entryBytes, upTo, andThen, fieldsAt, entryAt, rowOf, entryOf, rowFound, rowAt}
-use Rattle.record.specs.Record.{faultAfter, standingAfter, entries, fault, before, enter, heldFrom, recordOf, rowsHeld, allOf, bytesOf, rowsOf}
+use Rattle.record.specs.Entry.{upTo, andThen, fieldsAt, entryAt, rowOf, entryOf, rowFound, rowAt}
+use Rattle.record.specs.Record.{faultAfter, standingAfter, entries, fault, before, enter, heldFrom, recordOf, rowsHeld, allOf, rowsOf}
 
 -- client 0 writes 5 to cell 2, client 1 reads 5
 abbrev pub sheetBytes : List ℕ
@@ -24,30 +23,13 @@ sheetEntries =
     ∷ Told (record { 0 = 1 }) (pos 5)
     ∷ []
 
--- 12 bytes, 4 entries
-pub sheet-length : length sheetBytes ≡ 12
-sheet-length = refl
-
 pub sheet-reads : recordOf sheetBytes ≡ entries sheetEntries
 unfolding recordOf heldFrom enter before faultAfter standingAfter entryAt fieldsAt upTo andThen numberAt numberOf taken lastOf valueOf signedOf
 sheet-reads = refl
 
-pub sheet-writes : bytesOf sheetEntries ≡ sheetBytes
-unfolding allOf entryBytes groupsOf alternatingOf
-sheet-writes = refl
-
 pub sheet-rows : rowsOf sheetEntries ≡ 1 ∷ 0 ∷ 2 ∷ 10 ∷ 3 ∷ 0 ∷ 0 ∷ 0 ∷ 0 ∷ 1 ∷ 2 ∷ 0 ∷ 2 ∷ 1 ∷ 0 ∷ 10 ∷ []
 unfolding allOf rowOf alternatingOf
 sheet-rows = refl
-
--- no bytes is the empty record
-pub none-reads : recordOf [] ≡ entries []
-unfolding recordOf heldFrom
-none-reads = refl
-
-pub none-writes : bytesOf [] ≡ []
-unfolding allOf
-none-writes = refl
 
 -- there is no client 8, and no cell 16
 pub client-8 : entryAt (0x00 ∷ 0x08 ∷ 0x00 ∷ []) 0 ≡ Fault 25

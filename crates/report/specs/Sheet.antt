@@ -1,14 +1,12 @@
 -- The lines that the paper gives, and that a number's digits say the number.
 use Prim.Native.Nat.{ℕ, zero, suc, _+_, _-_, _*_, _/_, _%_, _^_, _<_}
-use mathlib.Core.Path.{_≡_, refl, sym, _∙_}
+use mathlib.Core.Path.{_≡_, refl, _∙_}
 use mathlib.Core.List.{List, [], _∷_, _++_}
 use mathlib.Core.Bool.{Bool, true, false, cond}
 use native.Mathlib.Omega.{arith}
 use native.Mathlib.Nat.{pow-suc}
 use lib.Dec.{ltb}
-use Rattle.record.specs.Wrote.{Wrote}
 use Rattle.record.specs.declared.Cell.{Cell}
-use Rattle.verdict.specs.declared.Verdict.{Verdict}
 use Rattle.verdict.specs.declared.Verdict.the-variants.{Lawful, Unlawful, Refused}
 use Rattle.report.specs.Line.{digitsOf, decimal, lineOf}
 
@@ -51,7 +49,3 @@ said-digits (suc p) n h = go (ltb n 10) refl (said-digits p (n / 10) (let e = po
     go : (t : Bool) → ltb n 10 ≡ t → said 0 (digitsOf p (n / 10)) ≡ n / 10 → said 0 (cond t ((48 + n) ∷ []) (digitsOf p (n / 10) ++ ((48 + n % 10) ∷ []))) ≡ n
     go true e ih = omega arith
     go false e ih = said-append 0 (digitsOf p (n / 10)) (48 + n % 10) ∙ omega (arith, ih)
-
--- what is written and what stands afterwards is settled
-pub only-one : (before : List ℕ) (v : Verdict) {r s : ℕ} {after other : List ℕ} → Wrote before 0 (lineOf v) r after → Wrote before 0 (lineOf v) s other → (r ≡ s) × (after ≡ other)
-only-one before v a b = (a .place ∙ sym (b .place), a .list ∙ sym (b .list))

@@ -1,13 +1,14 @@
 -- No other outcome fits a call: whatever words there are, they say of some slots that they are free, and two outcomes that meet the contract of a call
 -- on them are the same.
 use Prim.Native.Nat.{ℕ, _<_, _^_}
-use mathlib.Core.Bool.{Bool}
+use mathlib.Core.Bool.{Bool, true, false}
 use mathlib.Core.List.{List, [], _∷_}
 use mathlib.Core.Path.{_≡_, ap, sym, _∙_}
 use native.Mathlib.Omega.{arith}
 use lib.ListN.{length, getD}
-use Rattle.slots.specs.Free.{wordCount, firstFree, countFree, takenAt, givenAt}
-use Rattle.slots.specs.Words.{Tied, Took}
+use Rattle.slots.specs.Free.{wordCount, firstFree, countFree, takenAt, givenAt, markedAt}
+use Rattle.slots.specs.Words.{bitsFrom, Tied, Took}
+use Rattle.slots.specs.Bits.{bitAt}
 use Rattle.slots.specs.Finding.{tied-same, tied-only, tied-some, freeIn}
 use Rattle.slots.specs.Sheet.{lowest-of-6, count-of-6}
 
@@ -41,6 +42,9 @@ not-slot-2 r p q = omega (arith, lowest-of-6)
 pub not-one-free : (r : ℕ) → r ≡ countFree (freeIn (6 ∷ 0 ∷ 0 ∷ 0 ∷ [])) → r ≡ 1 → ⊥
 not-one-free r p q = omega (arith, count-of-6)
 
+pub not-three-free : (r : ℕ) → r ≡ countFree (freeIn (6 ∷ 0 ∷ 0 ∷ 0 ∷ [])) → r ≡ 3 → ⊥
+not-three-free r p q = omega (arith, count-of-6)
+
 -- ---- take
 
 -- two outcomes that answer the same slot and leave the same words
@@ -57,7 +61,44 @@ one-take f r r′ ws ws′ p q =
           (tied-same wordCount (takenAt f r′) (takenAt f r) ws′ (q .left) (λ k l. ap (λ (i : ℕ). takenAt f i k) e));
     }
 
--- ---- give
+-- where slots 1 and 2 are free, neither slot 2 is taken, nor is slot 1 free after
+pub not-second-taken : (ws : List ℕ) (r : ℕ) → Took (freeIn (6 ∷ 0 ∷ 0 ∷ 0 ∷ [])) ws r → r ≡ 2 → ⊥
+not-second-taken ws r t q = omega (arith, t .slot, lowest-of-6)
+
+pub not-free-after : (ws : List ℕ) (r : ℕ) → Took (freeIn (6 ∷ 0 ∷ 0 ∷ 0 ∷ [])) ws r → getD ws 0 0 ≡ 6 → ⊥
+unfolding bitsFrom takenAt freeIn bitAt
+not-free-after ws r t q =
+    let e : r ≡ 1 = t .slot ∙ lowest-of-6 in
+    let w : getD ws 0 0 ≡ 4 = t .left .words 0 (omega arith) ∙ ap (λ (i : ℕ). bitsFrom 64 0 (takenAt (freeIn (6 ∷ 0 ∷ 0 ∷ 0 ∷ [])) i)) e in
+    omega arith
+
+-- ---- give, mark
 
 pub one-give : (f : ℕ → Bool) (i : ℕ) (ws ws′ : List ℕ) → Tied (givenAt f i) ws → Tied (givenAt f i) ws′ → ws ≡ ws′
 one-give f i ws ws′ p q = tied-only wordCount (givenAt f i) ws ws′ p q
+
+-- slot 5 comes to 1 and 2: the words change, and it isn't alone
+abbrev Given : List ℕ → Type 0
+Given ws = Tied (givenAt (freeIn (6 ∷ 0 ∷ 0 ∷ 0 ∷ [])) 5) ws
+
+given-5 : (ws : List ℕ) → Given ws → getD ws 0 0 ≡ 38
+unfolding bitsFrom givenAt freeIn bitAt
+given-5 ws t = t .words 0 (omega arith)
+
+pub not-still-used : (ws : List ℕ) → Given ws → getD ws 0 0 ≡ 6 → ⊥
+not-still-used ws t q = omega (arith, given-5 ws t)
+
+pub not-alone : (ws : List ℕ) → Given ws → getD ws 0 0 ≡ 32 → ⊥
+not-alone ws t q = omega (arith, given-5 ws t)
+
+pub one-mark : (clear : Bool) (f : ℕ → Bool) (i : ℕ) (ws ws′ : List ℕ) → Tied (markedAt clear f i) ws → Tied (markedAt clear f i) ws′ → ws ≡ ws′
+one-mark clear f i ws ws′ p q = tied-only wordCount (markedAt clear f i) ws ws′ p q
+
+-- a slot that is clear is free again, and one that isn't stays as it was
+pub not-unmarked : (ws : List ℕ) → Tied (markedAt true (freeIn (6 ∷ 0 ∷ 0 ∷ 0 ∷ [])) 5) ws → getD ws 0 0 ≡ 6 → ⊥
+unfolding bitsFrom givenAt freeIn bitAt
+not-unmarked ws t q = let e : getD ws 0 0 ≡ 38 = t .words 0 (omega arith) in omega arith
+
+pub not-marked : (ws : List ℕ) → Tied (markedAt false (freeIn (6 ∷ 0 ∷ 0 ∷ 0 ∷ [])) 5) ws → getD ws 0 0 ≡ 38 → ⊥
+unfolding bitsFrom freeIn bitAt
+not-marked ws t q = let e : getD ws 0 0 ≡ 6 = t .words 0 (omega arith) in omega arith

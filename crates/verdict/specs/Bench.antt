@@ -1,96 +1,105 @@
--- The bench sheet's lines on lawfulness, as verdicts on bytes: any verdict that meets the judge's contract is this one. And the first
--- 16,385 bytes decide.
-use Prim.Native.Nat.{ℕ}
+-- The bench sheet's record and the same with last byte 00, as verdicts on bytes: any verdict that meets the judge's contract is this one. And the
+-- first 16,385 bytes decide.
+use Prim.Native.Nat.{ℕ, zero, suc, _<_}
 use mathlib.Core.Path.{_≡_, refl, ap}
+use mathlib.Core.Bool.{Bool, true, false, _&&_}
 use mathlib.Core.List.{List, [], _∷_}
 use native.Mathlib.Omega.{arith}
+use lib.Dec.{ltb}
 use lib.ListN.{take}
+use borrow.Author.Tests.{ltb-true}
 use Rattle.number.specs.Number.{taken, lastOf, valueOf, numberOf, numberAt}
 use Rattle.number.specs.Value.{alternatingOf, signedOf}
+use Rattle.record.specs.declared.Entry.{Entry}
+use Rattle.record.specs.Below.{Bytes}
 use Rattle.record.specs.Entry.{upTo, andThen, fieldsAt, entryAt}
 use Rattle.record.specs.Record.{entries, faultAfter, standingAfter, before, enter, heldFrom, recordOf}
-use Rattle.record.specs.Legal.{Legal}
-use Rattle.law.specs.Sheet.{empty-lawful, good, good-lawful, bad, bad-cell, bad-others}
+use Rattle.record.specs.Sheet.{sheetBytes, sheet-reads}
+use Rattle.law.specs.Operation.{operations}
+use Rattle.law.specs.Order.{Lawful}
+use Rattle.law.specs.Part.{partFrom, partOf}
+use Rattle.law.specs.Sheet.{empty-lawful, good, good-lawful, bad, bad-cell}
 use Rattle.pairs.specs.Enough.{byteLimit, enough}
 use Rattle.verdict.specs.declared.Verdict.{Verdict}
 use Rattle.verdict.specs.declared.Verdict.the-variants.{Lawful as saysLawful, Unlawful as saysUnlawful, Refused as saysRefused}
-use Rattle.verdict.specs.Verdict.{asksFor, askedAmong, repeats, distinctFrom, distinct, takenFor, Judges}
+use Rattle.verdict.specs.Verdict.{asksFor, askedAmong, repeats, distinctFrom, distinct, takenFor, Lowest, Judges}
 use Rattle.verdict.specs.Answers.{cellIn}
-use Rattle.verdict.specs.OnlyOne.{lawful-exactly, unlawful-exactly}
+use Rattle.verdict.specs.OnlyOne.{one-verdict}
 
 -- the first 16,385 bytes of any input decide the verdict on it
 pub decides : (s : List ℕ) → takenFor (take byteLimit s) ≡ takenFor s
 unfolding takenFor
 decides s = ap distinct (enough s)
 
--- 01 00 02 0A 03 00 00 01 02 02 01 0A
-abbrev pub twelve : List ℕ
-twelve = 0x01 ∷ 0x00 ∷ 0x02 ∷ 0x0A ∷ 0x03 ∷ 0x00 ∷ 0x00 ∷ 0x01 ∷ 0x02 ∷ 0x02 ∷ 0x01 ∷ 0x0A ∷ []
+-- ---- how a line of the sheet is shown
 
--- the same with last byte 00
+-- numbers that are bytes
+unfoldable pub allBytes : List ℕ → Bool
+allBytes [] = true
+allBytes (b ∷ s) = ltb b 256 && allBytes s
+
+both : (t u : Bool) → (t && u) ≡ true → (t ≡ true) × (u ≡ true)
+both true u e = (refl, e)
+both false u e = let z : _≡_ {A = ℕ} 0 1 = cc in absurd (omega arith)
+
+all-bytes : (s : List ℕ) → allBytes s ≡ true → Bytes s
+unfolding allBytes
+all-bytes [] e i = omega arith
+all-bytes (b ∷ s) e zero = ltb-true b 256 (both (ltb b 256) (allBytes s) e .0)
+all-bytes (b ∷ s) e (suc i) = all-bytes s (both (ltb b 256) (allBytes s) e .1) i
+
+-- the right verdict is the only one
+pub no-other : (s : List ℕ) → allBytes s ≡ true → (v : Verdict) → Judges (takenFor s) v → (w : Verdict) → Judges (takenFor s) w → w ≡ v
+no-other s e v p w q = one-verdict s (all-bytes s e) w v q p
+
+-- where all is about cell 2, it is the lowest that isn't lawful
+pub lowest-2 : (es : List Entry) → partOf 0 es ≡ [] → partOf 1 es ≡ [] → ¬ Lawful (operations (partOf 2 es)) → Lowest es 2
+lowest-2 es p q n = record { unlawful = n; below = below }
+  where
+    below : (d : ℕ) → d < 2 → Lawful (operations (partOf d es))
+    below zero l = rw p empty-lawful
+    below (suc zero) l = rw q empty-lawful
+    below (suc (suc d)) l = absurd (omega arith)
+
+-- ---- the sheet's record: lawful
+
+taken-twelve : takenFor sheetBytes ≡ entries good
+unfolding takenFor distinct distinctFrom repeats askedAmong asksFor alternatingOf
+taken-twelve = ap distinct sheet-reads
+
+pub twelve-judged : Judges (takenFor sheetBytes) saysLawful
+twelve-judged = (good, (taken-twelve, good-lawful))
+
+pub twelve-verdict : (v : Verdict) → Judges (takenFor sheetBytes) v → v ≡ saysLawful
+unfolding allBytes
+twelve-verdict = no-other sheetBytes refl saysLawful twelve-judged
+
+-- ---- with last byte 00: unlawful cell 2
+
 abbrev pub stale : List ℕ
 stale = 0x01 ∷ 0x00 ∷ 0x02 ∷ 0x0A ∷ 0x03 ∷ 0x00 ∷ 0x00 ∷ 0x01 ∷ 0x02 ∷ 0x02 ∷ 0x01 ∷ 0x00 ∷ []
-
-taken-twelve : takenFor twelve ≡ entries good
-unfolding takenFor distinct distinctFrom repeats askedAmong asksFor recordOf heldFrom enter before faultAfter standingAfter entryAt fieldsAt andThen upTo numberAt numberOf valueOf lastOf taken alternatingOf signedOf
-taken-twelve = refl
 
 taken-stale : takenFor stale ≡ entries bad
 unfolding takenFor distinct distinctFrom repeats askedAmong asksFor recordOf heldFrom enter before faultAfter standingAfter entryAt fieldsAt andThen upTo numberAt numberOf valueOf lastOf taken alternatingOf signedOf
 taken-stale = refl
 
-taken-none : takenFor [] ≡ entries []
-unfolding takenFor distinct distinctFrom recordOf heldFrom
-taken-none = refl
+pub stale-judged : Judges (takenFor stale) (saysUnlawful (record { 0 = 2 }))
+unfolding partOf partFrom
+stale-judged = (bad, (taken-stale, lowest-2 bad refl refl bad-cell))
 
-none-legal : Legal []
-none-legal = record { follows = tt; few = omega arith }
-
-good-legal : Legal good
-unfolding faultAfter standingAfter
-good-legal = record {
-  follows = (
-    (omega arith, omega arith, record { sfits = omega arith }),
-    refl,
-    (omega arith, refl, ((omega arith, omega arith), refl, ((omega arith, record { sfits = omega arith }), refl, tt))),
-  );
-  few = omega arith;
-}
-
-bad-legal : Legal bad
-unfolding faultAfter standingAfter
-bad-legal = record {
-  follows = (
-    (omega arith, omega arith, record { sfits = omega arith }),
-    refl,
-    (omega arith, refl, ((omega arith, omega arith), refl, ((omega arith, record { sfits = omega arith }), refl, tt))),
-  );
-  few = omega arith;
-}
-
--- no bytes: lawful
-pub none-verdict : (v : Verdict) → Judges (takenFor []) v → v ≡ saysLawful
-none-verdict v j = lawful-exactly (takenFor []) v j [] taken-none none-legal .1 empty-lawful
-
--- the twelve bytes: lawful
-pub twelve-verdict : (v : Verdict) → Judges (takenFor twelve) v → v ≡ saysLawful
-twelve-verdict v j = lawful-exactly (takenFor twelve) v j good taken-twelve good-legal .1 good-lawful
-
--- with last byte 00: unlawful cell 2
 pub stale-verdict : (v : Verdict) → Judges (takenFor stale) v → v ≡ saysUnlawful (record { 0 = 2 })
-stale-verdict v j =
-    unlawful-exactly (takenFor stale) v j bad taken-stale bad-legal (record { 0 = 2 }) .1
-    (record { unlawful = bad-cell; below = λ d l. bad-others d (λ e. omega arith) })
+unfolding allBytes
+stale-verdict = no-other stale refl (saysUnlawful (record { 0 = 2 })) stale-judged
 
 -- ---- wrong answers that the contract rules out
 
 pub not-always-lawful : Judges (takenFor stale) saysLawful → ⊥
 not-always-lawful j = let e = stale-verdict saysLawful j in let z : _≡_ {A = ℕ} 0 1 = cc in omega arith
 
-pub not-always-unlawful : Judges (takenFor twelve) (saysUnlawful (record { 0 = 2 })) → ⊥
+pub not-always-unlawful : Judges (takenFor sheetBytes) (saysUnlawful (record { 0 = 2 })) → ⊥
 not-always-unlawful j = let e = twelve-verdict (saysUnlawful (record { 0 = 2 })) j in let z : _≡_ {A = ℕ} 0 1 = cc in omega arith
 
-pub not-always-refused : (k n : ℕ) → Judges (takenFor twelve) (saysRefused k n) → ⊥
+pub not-always-refused : (k n : ℕ) → Judges (takenFor sheetBytes) (saysRefused k n) → ⊥
 not-always-refused k n j = let e = twelve-verdict (saysRefused k n) j in let z : _≡_ {A = ℕ} 0 1 = cc in omega arith
 
 pub not-another-cell : Judges (takenFor stale) (saysUnlawful (record { 0 = 0 })) → ⊥

@@ -1,30 +1,15 @@
--- Refusal 29 on the paper's bytes: client 0 writes 5 to cell 2, and client 1 reads 5 there.
-use Prim.Native.Nat.{ℕ}
+-- Refusal 29 on the bench sheet's bytes: client 0 writes 5 to cell 2, and client 1 reads 5 there.
 use mathlib.Core.Path.{_≡_, refl}
-use mathlib.Core.List.{List, [], _∷_, _++_}
-use lib.IntN.{pos}
+use mathlib.Core.List.{[], _∷_, _++_}
 use Rattle.number.specs.Number.{taken, lastOf, valueOf, numberOf, numberAt}
 use Rattle.number.specs.Value.{alternatingOf, signedOf}
-use Rattle.record.specs.declared.Entry.{Entry}
-use Rattle.record.specs.declared.Entry.the-variants.{ReadAsked, WriteAsked, Told, Done}
 use Rattle.record.specs.Entry.{upTo, andThen, fieldsAt, entryAt}
-use Rattle.record.specs.Record.{entries, fault, faultAfter, standingAfter, before, enter, heldFrom, recordOf}
+use Rattle.record.specs.Record.{fault, faultAfter, standingAfter, before, enter, heldFrom, recordOf}
+use Rattle.record.specs.Sheet.{sheetBytes}
 use Rattle.verdict.specs.Verdict.{asksFor, askedAmong, repeats, distinctFrom, distinct, takenFor}
 
--- the paper's twelve bytes, and their four entries
-abbrev twelve : List ℕ
-twelve = 0x01 ∷ 0x00 ∷ 0x02 ∷ 0x0A ∷ 0x03 ∷ 0x00 ∷ 0x00 ∷ 0x01 ∷ 0x02 ∷ 0x02 ∷ 0x01 ∷ 0x0A ∷ []
-
-abbrev four : List Entry
-four =
-    WriteAsked (record { 0 = 0 }) (record { 0 = 2 }) (pos 5) ∷ Done (record { 0 = 0 }) ∷ ReadAsked (record { 0 = 1 }) (record { 0 = 2 }) ∷ Told (record { 0 = 1 }) (pos 5) ∷ []
-
-pub taken-four : takenFor twelve ≡ entries four
-unfolding takenFor distinct distinctFrom repeats askedAmong asksFor recordOf heldFrom enter before faultAfter standingAfter entryAt fieldsAt andThen upTo numberAt numberOf valueOf lastOf taken alternatingOf signedOf
-taken-four = refl
-
 -- the first entry again: 5 is written to cell 2 twice
-pub twice : takenFor (twelve ++ (0x01 ∷ 0x00 ∷ 0x02 ∷ 0x0A ∷ [])) ≡ fault 29 4
+pub twice : takenFor (sheetBytes ++ (0x01 ∷ 0x00 ∷ 0x02 ∷ 0x0A ∷ [])) ≡ fault 29 4
 unfolding takenFor distinct distinctFrom repeats askedAmong asksFor recordOf heldFrom enter before faultAfter standingAfter entryAt fieldsAt andThen upTo numberAt numberOf valueOf lastOf taken alternatingOf signedOf
 twice = refl
 

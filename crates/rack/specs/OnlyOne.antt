@@ -1,0 +1,256 @@
+-- Events, soundness and the maker: no other outcome fits a call, and wrong ones do not meet its contract.
+use Prim.Native.Nat.{ℕ}
+use mathlib.Core.Path.{_≡_, refl, ap, sym, _∙_}
+use mathlib.Core.Bool.{Bool, true, false}
+use mathlib.Core.List.{[], _∷_}
+use native.Mathlib.Omega.{arith}
+use lib.Count.{ones}
+use Rattle.record.specs.declared.Entry.the-variants.{Done}
+use Rattle.quorum.specs.Sets.{majority, asksEnough, within}
+use Rattle.plan.specs.declared.Body.the-variants.{Ask, Keep, Kept}
+use Rattle.plan.specs.declared.Message.{Message}
+use Rattle.plan.specs.declared.Held.the-variants.{Empty, Full}
+use Rattle.plan.specs.declared.Goal.the-variants.{Read}
+use Rattle.plan.specs.declared.Work.{Work}
+use Rattle.plan.specs.declared.Work.the-variants.{Asking}
+use Rattle.plan.specs.declared.Party.{Party}
+use Rattle.rack.specs.declared.Sizes.{Sizes}
+use Rattle.plan.specs.declared.Event.{Event}
+use Rattle.plan.specs.declared.Event.the-variants.{StartRead, Deliver, Stop}
+use Rattle.plan.specs.declared.Note.{Note}
+use Rattle.plan.specs.declared.Note.the-variants.{Nothing, Asked}
+use Rattle.plan.specs.declared.Outcome.{Outcome}
+use Rattle.plan.specs.declared.Outcome.the-variants.{Go}
+use Rattle.rack.specs.declared.Made.{Made}
+use Rattle.plan.specs.Stamp.{freshPair}
+use Rattle.plan.specs.Plan.{messageOf, partyAt}
+use Rattle.rack.specs.Places.{idle}
+use Rattle.rack.specs.Sound.{sizesFit, pairFits, bodyFits, messageFits, heldFits, workFits, owes, owedBy, soundOf}
+use Rattle.rack.specs.Owed.{owedIn}
+use Rattle.plan.specs.About.{clientIn, clientOf}
+use Rattle.rack.specs.Run.{freshRack, madeOf, byte, eventOf, inRack, slotOf, placeIn, noted, freed, checked}
+use Rattle.rack.specs.Fresh.{fresh-sound}
+use Rattle.plan.specs.Answers.{refusalIn}
+use Rattle.rack.specs.Answers.{kindIn, firstIn, cellIn, valueIn}
+use Rattle.plan.specs.OnlyOne.{yes-not-no, pairOf, SameOutcome, one-outcome}
+
+-- Every call here but `checked`, `decode` and `made` answers yes or no, or a number: two answers that are both what is stated are the same by `one-answer`
+-- of PlanOnlyOne.
+
+-- ---- decode
+
+-- two events of the same kind, that name the same, and are one event
+pub record SameEvent (r r′ : Event) : Type 0 where
+  pub kind : kindIn r ≡ kindIn r′
+  pub first : firstIn r ≡ firstIn r′
+  pub cell : cellIn r ≡ cellIn r′
+  pub value : valueIn r ≡ valueIn r′
+  pub same : r ≡ r′
+
+pub one-event : (kind a b v : ℕ) (r r′ : Event) → r ≡ eventOf kind a b v → r′ ≡ eventOf kind a b v → SameEvent r r′
+one-event kind a b v r r′ p q =
+    let e : r ≡ r′ = p ∙ sym q in
+    record { kind = ap kindIn e; first = ap firstIn e; cell = ap cellIn e; value = ap valueIn e; same = e }
+
+-- kind 9 is no event, and client 256 is not client 0
+pub not-kind-9 : (r : Event) → r ≡ eventOf 9 0 0 0 → kindIn r ≡ 8 → ⊥
+unfolding eventOf kindIn
+not-kind-9 r p q = let e : kindIn r ≡ 9 = ap kindIn p in omega arith
+
+pub not-client-256 : (r : Event) → r ≡ eventOf 6 256 0 0 → kindIn r ≡ 6 → ⊥
+unfolding eventOf byte kindIn
+not-client-256 r p q = let e : kindIn r ≡ 9 = ap kindIn p in omega arith
+
+-- ---- in_rack
+
+-- three replicas, two clients, one cell
+abbrev sizes : Sizes
+sizes = record { replicas = 3; clients = 2; cells = 1 }
+
+pub not-slot-256 : (r : Bool) → r ≡ inRack sizes (Deliver 256) → r ≡ true → ⊥
+unfolding inRack
+not-slot-256 r p q = yes-not-no q p
+
+pub not-cell-1 : (r : Bool) → r ≡ inRack sizes (StartRead (record { 0 = 1 }) (record { 0 = 1 })) → r ≡ true → ⊥
+unfolding inRack
+not-cell-1 r p q = yes-not-no q p
+
+-- ---- slot_of, place_in, client_of
+
+-- a keep from client 1 to replica 2 about cell 3
+abbrev message : Message
+message = messageOf (record { 0 = 1 }) (record { 0 = 2 }) (record { 0 = 3 }) 1 (Keep (pairOf 1 0 5))
+
+pub not-slot-0 : (r : ℕ) → r ≡ slotOf (Deliver 5) → r ≡ 0 → ⊥
+unfolding slotOf
+not-slot-0 r p q = omega arith
+
+pub not-next-slot : (r : ℕ) → r ≡ slotOf (Deliver 5) → r ≡ 6 → ⊥
+unfolding slotOf
+not-next-slot r p q = omega arith
+
+-- the pair of replica 2 for cell 3 stands at 35, that of replica 3 for cell 2 at 50
+pub not-swapped : (r : ℕ) → r ≡ placeIn (Full message) → r ≡ 50 → ⊥
+unfolding placeIn
+not-swapped r p q = omega arith
+
+pub not-first-place : (r : ℕ) → r ≡ placeIn (Full message) → r ≡ 0 → ⊥
+unfolding placeIn
+not-first-place r p q = omega arith
+
+-- a stop is about the client it names, a delivery about its message's
+pub not-the-message : (r : ℕ) → r ≡ clientOf (Stop (record { 0 = 0 })) (Full message) → r ≡ 1 → ⊥
+unfolding clientOf
+not-the-message r p q = omega arith
+
+pub not-the-slot : (r : ℕ) → r ≡ clientOf (Deliver 7) (Full message) → r ≡ 7 → ⊥
+unfolding clientOf clientIn
+not-the-slot r p q = omega arith
+
+-- ---- checked
+
+pub one-checked : (o : Outcome) (taken room : ℕ) (r r′ : Outcome) → r ≡ checked o taken room → r′ ≡ checked o taken room → SameOutcome r r′
+one-checked o taken room r r′ p q = one-outcome (checked o taken room) r r′ p q
+
+-- a plan that empties its slot or not, adds an entry or none, and sends to three replicas
+abbrev sending : Bool → Note → Outcome
+sending clear note = Go (record { party = idle; pair = freshPair; power = 0b111; clear = clear; note = note; message = message; to = 0b111 })
+
+-- a delivered slot counts as free; a slot that stays doesn't; a start needs room for its entry and its answer
+pub not-13-delivered : (r : Outcome) → r ≡ checked (sending true Nothing) 0 2 → refusalIn r ≡ 13 → ⊥
+unfolding checked noted freed ones refusalIn
+not-13-delivered r p q = let e : refusalIn r ≡ 0 = ap refusalIn p in omega arith
+
+pub not-sent-short : (r : Outcome) → r ≡ checked (sending false Nothing) 0 2 → refusalIn r ≡ 0 → ⊥
+unfolding checked noted freed ones refusalIn
+not-sent-short r p q = let e : refusalIn r ≡ 13 = ap refusalIn p in omega arith
+
+pub not-past-2048 : (r : Outcome) → r ≡ checked (sending false (Asked (Done (record { 0 = 0 })))) 2047 9 → refusalIn r ≡ 0 → ⊥
+unfolding checked noted refusalIn
+not-past-2048 r p q = let e : refusalIn r ≡ 11 = ap refusalIn p in omega arith
+
+-- ---- sizes_in
+
+pub not-16-replicas : (r : Bool) → r ≡ sizesFit (record { replicas = 16; clients = 8; cells = 16 }) → r ≡ true → ⊥
+unfolding sizesFit
+not-16-replicas r p q = yes-not-no q p
+
+pub not-15-too-many : (r : Bool) → r ≡ sizesFit (record { replicas = 15; clients = 8; cells = 16 }) → r ≡ false → ⊥
+unfolding sizesFit
+not-15-too-many r p q = yes-not-no p q
+
+-- ---- Rack::sound, part by part: pairs, messages, slots
+
+-- of two clients there is no rank 2, and there is a rank 1
+pub not-rank-2 : (r : Bool) → r ≡ pairFits sizes (pairOf 1 2 5) → r ≡ true → ⊥
+unfolding pairFits
+not-rank-2 r p q = yes-not-no q p
+
+pub not-rank-1-unknown : (r : Bool) → r ≡ pairFits sizes (pairOf 1 1 5) → r ≡ false → ⊥
+unfolding pairFits
+not-rank-1-unknown r p q = yes-not-no p q
+
+pub not-keep-of-rank-2 : (r : Bool) → r ≡ bodyFits sizes (Keep (pairOf 1 2 5)) → r ≡ true → ⊥
+unfolding bodyFits pairFits
+not-keep-of-rank-2 r p q = yes-not-no q p
+
+pub not-kept-unfit : (r : Bool) → r ≡ bodyFits sizes Kept → r ≡ false → ⊥
+unfolding bodyFits
+not-kept-unfit r p q = yes-not-no p q
+
+-- an ask of cell 0 by client 1, to a replica
+abbrev asks : ℕ → Message
+asks k = messageOf (record { 0 = 1 }) (record { 0 = k }) (record { 0 = 0 }) 1 Ask
+
+pub not-replica-3 : (r : Bool) → r ≡ messageFits sizes (asks 3) → r ≡ true → ⊥
+unfolding messageFits
+not-replica-3 r p q = yes-not-no q p
+
+pub not-replica-2-unknown : (r : Bool) → r ≡ messageFits sizes (asks 2) → r ≡ false → ⊥
+unfolding messageFits bodyFits
+not-replica-2-unknown r p q = yes-not-no p q
+
+pub not-empty-unfit : (r : Bool) → r ≡ heldFits sizes Empty → r ≡ false → ⊥
+unfolding heldFits
+not-empty-unfit r p q = yes-not-no p q
+
+pub not-held-replica-3 : (r : Bool) → r ≡ heldFits sizes (Full (asks 3)) → r ≡ true → ⊥
+unfolding heldFits messageFits
+not-held-replica-3 r p q = yes-not-no q p
+
+-- ---- open operations
+
+-- an ask phase in which these have told
+abbrev told : ℕ → Work
+told set = Asking (record { 0 = 0 }) Read set (pairOf 1 0 5)
+
+-- two of three are a majority already, replica 3 isn't there, and one of three is fine
+pub not-majority-open : (r : Bool) → r ≡ workFits sizes (told 0b011) → r ≡ true → ⊥
+unfolding workFits pairFits within asksEnough majority ones
+not-majority-open r p q = yes-not-no q p
+
+pub not-fourth-told : (r : Bool) → r ≡ workFits sizes (told 0b1000) → r ≡ true → ⊥
+unfolding workFits pairFits within
+not-fourth-told r p q = yes-not-no q p
+
+pub not-one-unfit : (r : Bool) → r ≡ workFits sizes (told 0b001) → r ≡ false → ⊥
+unfolding workFits pairFits within asksEnough majority ones
+not-one-unfit r p q = yes-not-no p q
+
+-- ---- owed_by, owed_by_all
+
+-- a client that is stopped with an operation open
+abbrev stopped : Party
+stopped = record { stopped = true; op = 1; work = told 0b001 }
+
+pub not-owed-stopped : (r : ℕ) → r ≡ owedBy stopped → r ≡ 1 → ⊥
+unfolding owedBy
+not-owed-stopped r p q = omega arith
+
+pub not-free-asking : (r : ℕ) → r ≡ owedBy (partyAt 1 (told 0b001)) → r ≡ 0 → ⊥
+unfolding owedBy owes
+not-free-asking r p q = omega arith
+
+-- of one that asks, one that is idle and one that is stopped, one answer is owed
+pub not-all-owe : (r : ℕ) → r ≡ owedIn 3 (partyAt 1 (told 0b001) ∷ idle ∷ stopped ∷ []) → r ≡ 3 → ⊥
+unfolding owedIn owedBy owes
+not-all-owe r p q = let e : r ≡ 1 = p in omega arith
+
+pub not-none-owes : (r : ℕ) → r ≡ owedIn 3 (partyAt 1 (told 0b001) ∷ idle ∷ stopped ∷ []) → r ≡ 0 → ⊥
+unfolding owedIn owedBy owes
+not-none-owes r p q = let e : r ≡ 1 = p in omega arith
+
+-- ---- the whole rack
+
+pub not-fresh-unsound : (r : Bool) → r ≡ soundOf (freshRack 15 8 16) → r ≡ false → ⊥
+unfolding sizesFit
+not-fresh-unsound r p q = yes-not-no (p ∙ fresh-sound 15 8 16 refl) q
+
+pub not-16-sound : (r : Bool) → r ≡ soundOf (freshRack 16 8 16) → r ≡ true → ⊥
+unfolding soundOf sizesFit freshRack
+not-16-sound r p q = yes-not-no q p
+
+-- ---- Rack::made
+
+-- two answers with the same refusal and the same rack
+pub record SameMade (r r′ : Made) : Type 0 where
+  pub refusal : r .refusal ≡ r′ .refusal
+  pub rack : r .rack ≡ r′ .rack
+
+pub one-made : (replicas clients cells : ℕ) (r r′ : Made) → r ≡ madeOf replicas clients cells → r′ ≡ madeOf replicas clients cells → SameMade r r′
+one-made replicas clients cells r r′ p q =
+    let e : r ≡ r′ = p ∙ sym q in
+    record { refusal = ap (λ (x : Made). x .refusal) e; rack = ap (λ (x : Made). x .rack) e }
+
+-- 15, 8, 16 are made; 16, 8, 16 is refused, and beside it stands no rack of 16 replicas
+pub not-15-refused : (r : Made) → r ≡ madeOf 15 8 16 → r .refusal ≡ 1 → ⊥
+unfolding madeOf sizesFit
+not-15-refused r p q = let e : r .refusal ≡ 0 = ap (λ (x : Made). x .refusal) p in omega arith
+
+pub not-16-made : (r : Made) → r ≡ madeOf 16 8 16 → r .refusal ≡ 0 → ⊥
+unfolding madeOf sizesFit
+not-16-made r p q = let e : r .refusal ≡ 1 = ap (λ (x : Made). x .refusal) p in omega arith
+
+pub not-beside-16 : (r : Made) → r ≡ madeOf 16 8 16 → r .rack .sizes .replicas ≡ 16 → ⊥
+unfolding madeOf sizesFit freshRack
+not-beside-16 r p q = let e : r .rack .sizes .replicas ≡ 1 = ap (λ (x : Made). x .rack .sizes .replicas) p in omega arith
