@@ -35,7 +35,7 @@ use Rattle.rack.specs.Answers.{kindIn, firstIn, cellIn, valueIn}
 use Rattle.plan.specs.OnlyOne.{yes-not-no, pairOf, SameOutcome, one-outcome}
 
 -- Every call here but `checked`, `decode` and `made` answers yes or no, or a number: two answers that are both what is stated are the same by `one-answer`
--- of PlanOnlyOne.
+-- of plan's OnlyOne.
 
 -- ---- decode
 
