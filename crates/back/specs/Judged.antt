@@ -13,8 +13,10 @@ use Rattle.record.specs.declared.Entry.{Entry}
 use Rattle.record.specs.declared.Entry.the-variants.{ReadAsked, WriteAsked, Told, Done}
 use Rattle.record.specs.Record.{Held, entries, fault, bytesOf}
 use Rattle.record.specs.Below.{Words}
-use Rattle.verdict.specs.declared.Verdict.the-variants.{Refused as saysRefused}
+use Rattle.verdict.specs.declared.Verdict.{Verdict}
+use Rattle.verdict.specs.declared.Verdict.the-variants.{Lawful as saysLawful, Refused as saysRefused}
 use Rattle.verdict.specs.Verdict.{asksFor, askedAmong, repeats, distinctFrom, distinct, takenFor, Judges}
+use Rattle.verdict.specs.OnlyOne.{lawful-exactly}
 use Rattle.quorum.specs.Sets.{hasReplica, withReplica, asksEnough, keepsEnough}
 use Rattle.plan.specs.declared.Pair.{Pair}
 use Rattle.plan.specs.declared.Body.{Body}
@@ -42,6 +44,7 @@ use Rattle.rack.specs.Decided.{lookedHeld}
 use Rattle.rack.specs.Fresh.{made-sound}
 use Rattle.schedule.specs.Stays.{sound-stays}
 use Rattle.schedule.specs.Steps.{sound-from}
+use Rattle.promise.specs.Promise.{promise}
 use Rattle.back.specs.Standing.{Agrees}
 use Rattle.back.specs.Writes.{writesBy, writesOf, Differ}
 use Rattle.back.specs.Lines.{added}
@@ -256,12 +259,12 @@ from-clear done r (suc left) (x ∷ y ∷ z ∷ v ∷ ws) h s a c =
         ih (appliedOf r (eventOf x y z v) p) (sound-stays r (eventOf x y z v) p s e) (agree-stays r (eventOf x y z v) p s a (event-small x y z v (h 3)) e)
         (ahead-stays r (eventOf x y z v) p (writesOf ws) s a e c)
 
--- The judge refuses no record of a run of a fresh rack, for any sizes and any allowance, if the writes that the events ask for differ: its verdict is
--- lawful or unlawful.
-pub not-refused : (replicas clients cells allowance : ℕ) (events : List ℕ) → Words events → Differ events
-    → (k n : ℕ) → ¬ Judges (takenFor (bytesOf (recordOf (runOf (madeOf replicas clients cells .rack) allowance events .rack)))) (saysRefused k n)
+-- The judge takes the record of a run of a fresh rack for just its entries, for any sizes and any allowance, if the writes that the events ask for differ.
+taken-whole : (replicas clients cells allowance : ℕ) (events : List ℕ) → Words events → Differ events
+    → takenFor (bytesOf (recordOf (runOf (madeOf replicas clients cells .rack) allowance events .rack)))
+    ≡ entries (recordOf (runOf (madeOf replicas clients cells .rack) allowance events .rack))
 unfolding distinct
-not-refused replicas clients cells allowance events h d k n j =
+taken-whole replicas clients cells allowance events h d =
     let r : Rack = madeOf replicas clients cells .rack in
     let s : soundOf r ≡ true = made-sound replicas clients cells in
     let es : List Entry = recordOf (runOf r allowance events .rack) in
@@ -269,5 +272,20 @@ not-refused replicas clients cells allowance events h d k n j =
     let c : Clear [] es =
     rw (sound-from r allowance events s)
     (from-clear 0 r allowance events h s (made-agrees replicas clients cells) (rw first (tt, distinct-clear [] 0 (writesOf events) (writesOf events) d))) in
-    let t : entries es ≡ fault k n = sym (taken-legal es (run-legal replicas clients cells allowance events h) ∙ clear-distinct [] 0 es (entries es) c) ∙ j in
+    taken-legal es (run-legal replicas clients cells allowance events h) ∙ clear-distinct [] 0 es (entries es) c
+
+-- It doesn't refuse them: its verdict is lawful or unlawful.
+pub not-refused : (replicas clients cells allowance : ℕ) (events : List ℕ) → Words events → Differ events
+    → (k n : ℕ) → ¬ Judges (takenFor (bytesOf (recordOf (runOf (madeOf replicas clients cells .rack) allowance events .rack)))) (saysRefused k n)
+not-refused replicas clients cells allowance events h d k n j =
+    let t : entries (recordOf (runOf (madeOf replicas clients cells .rack) allowance events .rack)) ≡ fault k n =
+    sym (taken-whole replicas clients cells allowance events h d) ∙ j in
     let z : _≡_ {A = ℕ} 0 1 = cc in omega arith
+
+-- And by the promise its verdict is lawful, and no other.
+pub judged-lawful : (replicas clients cells allowance : ℕ) (events : List ℕ) → Words events → Differ events
+    → (v : Verdict) → Judges (takenFor (bytesOf (recordOf (runOf (madeOf replicas clients cells .rack) allowance events .rack)))) v → v ≡ saysLawful
+judged-lawful replicas clients cells allowance events h d v j =
+    let es : List Entry = recordOf (runOf (madeOf replicas clients cells .rack) allowance events .rack) in
+    lawful-exactly (takenFor (bytesOf es)) v j es (taken-whole replicas clients cells allowance events h d) (run-legal replicas clients cells allowance events h) .1
+    (promise replicas clients cells allowance events)
