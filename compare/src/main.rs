@@ -27,6 +27,7 @@ const USAGE: &str = "usage: compare [all | records | verdicts | bench-sheet] [--
        compare check-samples FOLDER    holds the sample records to what would be made
        compare racks [--seed NUMBER]   holds the two independent racks to each other
        compare drill                   runs the script on standard input
+       compare scripts FOLDER [--seed NUMBER]   makes scripts for drill
        compare bench-rack              times the quick rack";
 
 const USUAL_SEED: u64 = 2048;
@@ -42,6 +43,10 @@ fn main() -> ExitCode {
         ["racks"] => racks::compare_racks(USUAL_SEED),
         ["racks", "--seed", seed] => seed.parse().map_or_else(|_| usage(), racks::compare_racks),
         ["drill"] => racks::drill_program(),
+        ["scripts", folder] => racks::make_scripts(Path::new(folder), USUAL_SEED),
+        ["scripts", folder, "--seed", seed] => {
+            seed.parse().map_or_else(|_| usage(), |seed| racks::make_scripts(Path::new(folder), seed))
+        }
         ["bench-rack"] => racks::bench_racks(),
         ["records"] => run_all(&RECORDS, USUAL_SEED),
         ["verdicts"] => run_all(&[VERDICTS], USUAL_SEED),

@@ -14,6 +14,7 @@ pub mod lockstep;
 pub mod quick;
 pub mod refusals;
 pub mod schedule;
+pub mod scripts;
 pub mod soundness;
 pub mod starts;
 pub mod state;

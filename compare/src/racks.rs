@@ -3,9 +3,11 @@
 use compare::rack::drill::drill;
 use compare::rack::lockstep::compare;
 use compare::rack::quick::QuickRack;
+use compare::rack::scripts;
 use compare::rack::timing::{of_a_run, of_steps, schedules};
 use compare::random::Random;
 use std::io::{self, Read, Write};
+use std::path::Path;
 use std::time::Instant;
 
 /// What the comparison of racks tries at least.
@@ -33,6 +35,18 @@ pub fn drill_program() -> bool {
         eprintln!("drill: {error}");
     }
     done.is_ok()
+}
+
+/// Scripts for `drill`, from a seed.
+pub fn make_scripts(folder: &Path, seed: u64) -> bool {
+    match scripts::write_to(folder, seed) {
+        Ok(files) => println!("scripts: {files} made, seed {seed}"),
+        Err(error) => {
+            println!("scripts: {error}");
+            return false;
+        }
+    }
+    true
 }
 
 /// Nanoseconds per event, of a whole run and of single events.

@@ -1,0 +1,93 @@
+-- What one more text, entry or place leaves.
+use Prim.Native.Nat.{ℕ, suc, _+_, _≤_, _^_, _<_, min}
+use mathlib.Core.Path.{_≡_, refl, sym, ap, _∙_}
+use mathlib.Core.List.{List, [], _∷_, _++_, map, append-assoc, append-nil}
+use mathlib.Core.Bool.{Bool, true, false}
+use native.Mathlib.Omega.{arith}
+use native.Mathlib.Numerals.{add-one}
+use lib.ListN.{length, getD, take}
+use lib.Seq.{take-suc, take-all}
+use lib.IntN.{ℤ}
+use lib.Signed.{mag}
+use lib.Dec.{ltb}
+use borrow.Author.Tests.{ltb-true, ltb-false}
+use mir.Syntax.{w32}
+use mir.Val.{toZ, ofZ}
+use mir.Facts.{toZ-ofZ}
+use Rattle.number.specs.Value.{alternatingOf}
+use Rattle.text.specs.Text.{hexText, Printed}
+use Rattle.text.specs.Printing.{nothing, join, same-text, hex-append}
+use Rattle.record.specs.Entry.{entryBytes}
+use Rattle.record.specs.Record.{allOf, bytesOf}
+use Rattle.rack.specs.declared.Line.{Line}
+use Rattle.show.specs.Lines.{eachBelow}
+
+-- ---- the texts of the numbers below n
+
+module _ {l : List ℕ} {at : ℕ} (f : ℕ → List ℕ) where
+  pub each-none : Printed l at (eachBelow 0 f) at l
+  unfolding eachBelow
+  each-none = nothing
+
+  pub each-next : (i : ℕ) {a r : ℕ} {l′ l″ : List ℕ} → Printed l at (eachBelow i f) a l′ → Printed l′ a (f i) r l″ → Printed l at (eachBelow (i + 1) f) r l″
+  unfolding eachBelow
+  each-next i v w = let e : suc i ≡ i + 1 = omega arith in same-text (ap (λ (k : ℕ). eachBelow k f) e) (join v w)
+
+  pub each-all : (i n : ℕ) {a : ℕ} {l′ : List ℕ} → i ≤ n → n ≤ i → Printed l at (eachBelow i f) a l′ → Printed l at (eachBelow n f) a l′
+  each-all i n h k v = let e : i ≡ n = omega arith in same-text (ap (λ (m : ℕ). eachBelow m f) e) v
+
+-- ---- a value that was handed on is the value itself
+
+pub handed : (v : ℤ) → mag v < 2 ^ 31 → toZ w32 (ofZ w32 v) ≡ v
+handed v h = toZ-ofZ {w = w32} {z = v} (record { sfits = h })
+
+-- and so is its number
+pub alternated : (v : ℤ) (n : ℕ) → mag v < 2 ^ 31 → n ≡ alternatingOf (toZ w32 (ofZ w32 v)) → alternatingOf v ≡ n
+alternated v n h e = sym (e ∙ ap alternatingOf (handed v h))
+
+-- ---- the record's entries in hex
+
+abbrev entriesText : List Line → List ℕ
+entriesText ls = hexText (bytesOf (map (λ (l : Line). l .entry) ls))
+
+entries-append : (xs ys : List Line) → entriesText xs ++ entriesText ys ≡ entriesText (xs ++ ys)
+unfolding allOf hexText
+entries-append [] ys = refl
+entries-append (x ∷ xs) ys =
+    ap (λ (t : List ℕ). t ++ entriesText ys) (sym (hex-append (entryBytes (x .entry)) (bytesOf (map (λ (l : Line). l .entry) xs))))
+    ∙ append-assoc (hexText (entryBytes (x .entry))) (entriesText xs) (entriesText ys)
+    ∙ ap (λ (t : List ℕ). hexText (entryBytes (x .entry)) ++ t) (entries-append xs ys)
+    ∙ hex-append (entryBytes (x .entry)) (bytesOf (map (λ (l : Line). l .entry) (xs ++ ys)))
+
+one-entry : (x : Line) → hexText (entryBytes (x .entry)) ≡ entriesText (x ∷ [])
+unfolding allOf
+one-entry x = ap hexText (sym (append-nil (entryBytes (x .entry))))
+
+module _ {l : List ℕ} {at : ℕ} (lines : List Line) where
+  pub no-entry : Printed l at (hexText (bytesOf (map (λ (x : Line). x .entry) (take 0 lines)))) at l
+  unfolding allOf hexText
+  no-entry = nothing
+
+  pub next-entry : (i : ℕ) (d : Line) {a r : ℕ} {l′ l″ : List ℕ} → i < length lines
+      → Printed l at (hexText (bytesOf (map (λ (x : Line). x .entry) (take i lines)))) a l′
+      → Printed l′ a (hexText (entryBytes (getD lines i d .entry))) r l″
+      → Printed l at (hexText (bytesOf (map (λ (x : Line). x .entry) (take (i + 1) lines)))) r l″
+  next-entry i d h v w =
+      same-text
+      (entries-append (take i lines) (getD lines i d ∷ [])
+      ∙ ap entriesText (sym (take-suc lines i d h) ∙ ap (λ (k : ℕ). take k lines) (sym (add-one i))))
+      (join v (same-text (one-entry (getD lines i d)) w))
+
+  -- the first n are all that stand there
+  pub all-entries : (i count : ℕ) {a : ℕ} {l′ : List ℕ} → length lines ≡ 2048 → i ≤ min count 2048 → min count 2048 ≤ i
+      → Printed l at (hexText (bytesOf (map (λ (x : Line). x .entry) (take i lines)))) a l′
+      → Printed l at (hexText (bytesOf (map (λ (x : Line). x .entry) (take count lines)))) a l′
+  all-entries i count e h k v = same-text (ap entriesText (same-front (ltb count 2048) refl)) v
+    where
+      same-front : (t : Bool) → ltb count 2048 ≡ t → take i lines ≡ take count lines
+      same-front true q =
+          let few : count < 2048 = ltb-true count 2048 q in
+          let same : i ≡ count = omega arith in ap (λ (n : ℕ). take n lines) same
+      same-front false q =
+          let many : 2048 ≤ count = ltb-false count 2048 q in
+          take-all i lines (omega arith) ∙ sym (take-all count lines (omega arith))

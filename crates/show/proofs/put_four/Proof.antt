@@ -1,0 +1,26 @@
+-- `show::put_four` meets its contract. Assumes nothing.
+use borrow.Author.Needs.{needs}
+use Rattle.text.specs.Printing.{join, same-text, hex-append}
+use Rattle.show.proofs.put_four.Statement.{statement}
+use Rattle.show.proofs.put_four.Tie as tie
+
+put-hex-number-requires : tie.Need-put-hex-number-requires
+put-hex-number-requires c κs = search needs
+
+put-three-requires : tie.Need-put-three-requires
+put-three-requires c κs = search needs
+
+same-length : tie.Need-same-length
+same-length c = search needs
+
+returns : tie.Need-returns
+returns c = same-text (hex-append _ _) (join (c .before .before .before .before .before .before .put-hex-number .ensures) (c .before .before .put-three .ensures))
+
+pub put-four-spec : {M : Type 1} → statement M
+put-four-spec =
+    tie.close
+    (tie.spec
+    put-hex-number-requires
+    put-three-requires
+    same-length
+    returns)

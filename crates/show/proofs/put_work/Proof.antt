@@ -1,0 +1,64 @@
+-- `show::put_work` meets its contract. Assumes nothing.
+use mathlib.Core.Path.{sym, ap}
+use borrow.Author.Needs.{needs}
+use Rattle.text.specs.Printing.{same-text}
+use Rattle.show.specs.Lines.{workText}
+use Rattle.show.proofs.put_work.Statement.{statement}
+use Rattle.show.proofs.put_work.Tie as tie
+
+enum-told : tie.Need-enum-told
+enum-told c = search needs
+
+slice-aggregate-put-field : tie.Need-slice-aggregate-put-field
+slice-aggregate-put-field c = search needs
+
+put-field-requires : tie.Need-put-field-requires
+put-field-requires c κs = search needs
+
+enum-known-work : tie.Need-enum-known-work
+enum-known-work c = search needs
+
+put-asking-requires : tie.Need-put-asking-requires
+put-asking-requires c κs = search needs
+
+enum-known-work-2 : tie.Need-enum-known-work-2
+enum-known-work-2 c = search needs
+
+put-keeping-requires : tie.Need-put-keeping-requires
+put-keeping-requires c κs = search needs
+
+same-length : tie.Need-same-length
+same-length c = search needs
+
+returns : tie.Need-returns
+returns c = same-text (ap (workText _) (sym (c .before .before .before .before .before .enum-told .given .1))) (c .before .before .put-field .ensures)
+
+same-length-2 : tie.Need-same-length-2
+same-length-2 c = search needs
+
+returns-2 : tie.Need-returns-2
+returns-2 c = same-text (ap (workText _) (sym (c .before .before .before .before .before .work .given .1))) (c .before .before .put-asking .ensures)
+
+same-length-3 : tie.Need-same-length-3
+same-length-3 c = search needs
+
+returns-3 : tie.Need-returns-3
+returns-3 c = same-text (ap (workText _) (sym (c .before .before .before .before .before .work2 .given .1))) (c .before .before .put-keeping .ensures)
+
+pub put-work-spec : {M : Type 1} → statement M
+put-work-spec =
+    tie.close
+    (tie.spec
+    enum-told
+    slice-aggregate-put-field
+    put-field-requires
+    enum-known-work
+    put-asking-requires
+    enum-known-work-2
+    put-keeping-requires
+    same-length
+    returns
+    same-length-2
+    returns-2
+    same-length-3
+    returns-3)

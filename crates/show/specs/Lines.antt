@@ -1,0 +1,139 @@
+-- The lines that say what a run did and left, for people and for comparison: how many events were done, the refusal, then the rack.
+use Prim.Native.Nat.{ℕ, zero, suc}
+use mathlib.Core.List.{List, [], _++_}
+use mathlib.Core.Bool.{Bool, true, false, cond}
+use lib.Dec.{eqb}
+use Rattle.text.specs.Text.{decimal, valueText, hexText}
+use Rattle.record.specs.Record.{bytesOf}
+use Rattle.quorum.specs.Sets.{hasReplica}
+use Rattle.plan.specs.declared.Pair.{Pair}
+use Rattle.plan.specs.declared.Body.{Body}
+use Rattle.plan.specs.declared.Body.the-variants.{Ask, Tell, Keep, Kept}
+use Rattle.plan.specs.declared.Message.{Message}
+use Rattle.plan.specs.declared.Held.{Held}
+use Rattle.plan.specs.declared.Held.the-variants.{Empty, Full}
+use Rattle.plan.specs.declared.Goal.{Goal}
+use Rattle.plan.specs.declared.Goal.the-variants.{Read, Write}
+use Rattle.plan.specs.declared.Work.{Work}
+use Rattle.plan.specs.declared.Work.the-variants.{Idle, Asking, Keeping}
+use Rattle.plan.specs.declared.Party.{Party}
+use Rattle.rack.specs.declared.Sizes.{Sizes}
+use Rattle.rack.specs.declared.Rack.{Rack}
+use Rattle.rack.specs.declared.Ran.{Ran}
+use Rattle.rack.specs.Places.{slotLimit, partyAt, pairAt, heldAt, recordOf}
+use Rattle.show.specs.Words.{doneStart, refusedStart, noneWord, byteWords, rackStart, replicaStart, clientStart, slotStart, recordStart, space, lineFeed, dot, equals, onWord, offWord, stoppedWord, idleWords, askingWord, keepingWord, readWord, writeWord, fromWord, fromNone, heldWord, heldNone, askWord, tellWord, keepWord, keptWord, pairWord, clientWord, replicaWord, cellWord, opWord}
+
+-- ---- what lines are made of
+
+-- words, and then a number
+abbrev pub field : List ℕ → ℕ → List ℕ
+field words n = words ++ decimal n
+
+-- the texts of the numbers below n, one after another
+unfoldable pub eachBelow : ℕ → (ℕ → List ℕ) → List ℕ
+eachBelow zero f = []
+eachBelow (suc n) f = eachBelow n f ++ f n
+
+-- number.rank=value
+abbrev pub pairText : Pair → List ℕ
+pairText p = decimal (p .stamp .number) ++ (field dot (p .stamp .rank) ++ (equals ++ valueText (p .value)))
+
+-- ---- a slot's line: full slots only; tell and keep end with the pair
+
+abbrev pub kindText : Body → List ℕ
+kindText Ask = askWord
+kindText (Tell p) = tellWord
+kindText (Keep p) = keepWord
+kindText Kept = keptWord
+
+abbrev pub bodyPair : Body → List ℕ
+bodyPair Ask = []
+bodyPair (Tell p) = pairWord ++ pairText p
+bodyPair (Keep p) = pairWord ++ pairText p
+bodyPair Kept = []
+
+abbrev pub namesText : ℕ → ℕ → ℕ → ℕ → List ℕ
+namesText client replica cell op = field clientWord client ++ (field replicaWord replica ++ (field cellWord cell ++ field opWord op))
+
+abbrev pub messageText : Message → List ℕ
+messageText m = kindText (m .body) ++ (namesText (m .client .0) (m .replica .0) (m .cell .0) (m .op) ++ bodyPair (m .body))
+
+abbrev pub slotLine : ℕ → Held → List ℕ
+slotLine i Empty = []
+slotLine i (Full m) = field slotStart i ++ (messageText m ++ lineFeed)
+
+-- ---- a client's line
+
+abbrev pub goalText : Goal → List ℕ
+goalText Read = readWord
+goalText (Write v) = writeWord ++ valueText v
+
+-- the members of a set, a space before each; " none" where there is none
+abbrev pub memberText : ℕ → ℕ → List ℕ
+memberText set k = cond (hasReplica set k) (field space k) []
+
+abbrev pub membersText : ℕ → List ℕ
+membersText set = cond (eqb set 0) fromNone (eachBelow 16 (λ k. memberText set k))
+
+abbrev pub openText : ℕ → ℕ → Goal → ℕ → List ℕ
+openText op cell goal set = goalText goal ++ (field cellWord cell ++ (field opWord op ++ (fromWord ++ membersText set)))
+
+abbrev pub heldText : Pair → List ℕ
+heldText p = heldWord ++ pairText p
+
+-- nothing is held in the ask phase while the set is empty
+abbrev pub firstHeld : ℕ → Pair → List ℕ
+firstHeld set p = cond (eqb set 0) heldNone (heldText p)
+
+abbrev pub workText : ℕ → Work → List ℕ
+workText op Idle = field idleWords op
+workText op (Asking cell goal set held) = askingWord ++ (openText op (cell .0) goal set ++ firstHeld set held)
+workText op (Keeping cell goal set held) = keepingWord ++ (openText op (cell .0) goal set ++ heldText held)
+
+abbrev pub stoppedText : Bool → List ℕ
+stoppedText true = stoppedWord
+stoppedText false = []
+
+abbrev pub clientLine : ℕ → Party → List ℕ
+clientLine i p = field clientStart i ++ (stoppedText (p .stopped) ++ (workText (p .op) (p .work) ++ lineFeed))
+
+-- ---- a replica's line: its pair for each cell, a space before each
+
+abbrev pub powerText : Bool → List ℕ
+powerText true = onWord
+powerText false = offWord
+
+abbrev pub pairsText : Rack → ℕ → List ℕ
+pairsText r k = eachBelow (r .sizes .cells) (λ x. space ++ pairText (pairAt r k x))
+
+abbrev pub replicaLine : Rack → ℕ → List ℕ
+replicaLine r k = field replicaStart k ++ (powerText (hasReplica (r .power) k) ++ (pairsText r k ++ lineFeed))
+
+-- ---- the rack, and a run
+
+abbrev pub sizesLine : Sizes → List ℕ
+sizesLine z = field rackStart (z .replicas) ++ (field space (z .clients) ++ (field space (z .cells) ++ lineFeed))
+
+-- the record's bytes, in two hex digits each
+abbrev pub recordLine : Rack → List ℕ
+recordLine r = recordStart ++ (hexText (bytesOf (recordOf r)) ++ lineFeed)
+
+-- slots by rising number
+abbrev pub rackText : Rack → List ℕ
+rackText r =
+    sizesLine (r .sizes)
+    ++ (eachBelow (r .sizes .replicas) (λ k. replicaLine r k)
+    ++ (eachBelow (r .sizes .clients) (λ i. clientLine i (partyAt r i))
+    ++ (eachBelow slotLimit (λ i. slotLine i (heldAt r i))
+    ++ recordLine r)))
+
+abbrev pub refusalText : ℕ → List ℕ
+refusalText k = cond (eqb k 0) noneWord (decimal k)
+
+-- the lines of a run
+unfoldable pub ranText : Ran → List ℕ
+ranText q = (field doneStart (q .done) ++ (lineFeed ++ (refusedStart ++ (refusalText (q .refusal) ++ lineFeed)))) ++ rackText (q .rack)
+
+-- the one line of a script that has a fault
+unfoldable pub faultLine : ℕ → ℕ → List ℕ
+faultLine refusal byte = field refusedStart refusal ++ (field byteWords byte ++ lineFeed)

@@ -1,0 +1,499 @@
+// The lines that say what a run did and left, for people and for comparison.
+ghost use mathlib.Core.Path.{_≡_};
+ghost use mathlib.Core.List.{_++_, map};
+ghost use Prim.Native.Nat.{min};
+ghost use lib.ListN.{getD, take};
+ghost use Rattle.number.specs.Number.{numberBytes};
+ghost use Rattle.text.specs.Text.{hexText, Printed};
+ghost use Rattle.record.specs.Entry.{entryBytes};
+ghost use Rattle.record.specs.Record.{bytesOf};
+ghost use Rattle.quorum.specs.Sets.{hasReplica};
+ghost use Rattle.rack.specs.declared.Line.{Line};
+ghost use Rattle.plan.specs.Stamp.{freshPair};
+ghost use Rattle.rack.specs.Places.{idle, pairPlace, heldIn};
+ghost use Rattle.show.specs.Words.{doneStart, refusedStart, lineFeed, space, pairWord, askingWord, keepingWord};
+ghost use Rattle.show.specs.Lines.{field, eachBelow, pairText, kindText, bodyPair, namesText, messageText, slotLine, goalText, memberText, membersText, openText, heldText, firstHeld, workText, stoppedText, clientLine, powerText, replicaLine, sizesLine, recordLine, rackText, refusalText, ranText, faultLine};
+use plan::Body;
+use plan::Goal;
+use plan::Held;
+use plan::Message;
+use plan::Pair;
+use plan::Party;
+use plan::Work;
+use plan::stamps::fresh_pair;
+use rack::Line;
+use rack::Rack;
+use rack::Ran;
+use rack::Sizes;
+use rack::Slot;
+use record::Cell;
+use record::Entry;
+use record::Replica;
+use text::put_decimal;
+use text::put_field;
+use text::put_hex_number;
+use text::put_value;
+use text::put_words;
+
+// ---- a slot's line
+
+// number.rank=value
+fn put_pair(out: &mut [u8], at: usize, pair: Pair) -> usize
+    ensures { λ r. ⌜ Printed (now (out .entry)) at (pairText pair) r (now (out .exit)) ⌝ }
+{
+    let stamp = pair.stamp;
+    let a = put_decimal(out, at, stamp.number as usize);
+    let b = put_field(out, a, b".", stamp.rank as usize);
+    let c = put_words(out, b, b"=");
+    put_value(out, c, pair.value)
+}
+
+fn put_kind(out: &mut [u8], at: usize, body: Body) -> usize
+    ensures { λ r. ⌜ Printed (now (out .entry)) at (kindText body) r (now (out .exit)) ⌝ }
+{
+    match body {
+        Body::Ask => put_words(out, at, b" ask"),
+        Body::Tell(_) => put_words(out, at, b" tell"),
+        Body::Keep(_) => put_words(out, at, b" keep"),
+        Body::Kept => put_words(out, at, b" kept"),
+    }
+}
+
+// A message's pair, after its word.
+fn put_named_pair(out: &mut [u8], at: usize, pair: Pair) -> usize
+    ensures { λ r. ⌜ Printed (now (out .entry)) at (pairWord ++ pairText pair) r (now (out .exit)) ⌝ }
+{
+    let next = put_words(out, at, b" pair ");
+    put_pair(out, next, pair)
+}
+
+fn put_body_pair(out: &mut [u8], at: usize, body: Body) -> usize
+    ensures { λ r. ⌜ Printed (now (out .entry)) at (bodyPair body) r (now (out .exit)) ⌝ }
+{
+    match body {
+        Body::Ask => at,
+        Body::Tell(pair) => put_named_pair(out, at, pair),
+        Body::Keep(pair) => put_named_pair(out, at, pair),
+        Body::Kept => at,
+    }
+}
+
+// Between whom a message goes, about which cell, for which operation.
+fn put_names(out: &mut [u8], at: usize, client: u8, replica: u8, cell: u8, op: u16) -> usize
+    ensures { λ r. ⌜ Printed (now (out .entry)) at (namesText client replica cell op) r (now (out .exit)) ⌝ }
+{
+    let a = put_field(out, at, b" client ", client as usize);
+    let b = put_field(out, a, b" replica ", replica as usize);
+    let c = put_field(out, b, b" cell ", cell as usize);
+    put_field(out, c, b" op ", op as usize)
+}
+
+fn put_message(out: &mut [u8], at: usize, m: Message) -> usize
+    ensures { λ r. ⌜ Printed (now (out .entry)) at (messageText m) r (now (out .exit)) ⌝ }
+{
+    let client = m.client;
+    let replica = m.replica;
+    let cell = m.cell;
+    let body = m.body;
+    let a = put_kind(out, at, body);
+    let b = put_names(out, a, client.0, replica.0, cell.0, m.op);
+    put_body_pair(out, b, body)
+}
+
+// Only a full slot has a line.
+fn put_slot(out: &mut [u8], at: usize, i: usize, held: Held) -> usize
+    ensures { λ r. ⌜ Printed (now (out .entry)) at (slotLine i held) r (now (out .exit)) ⌝ }
+{
+    match held {
+        Held::Empty => at,
+        Held::Full(m) => {
+            let a = put_field(out, at, b"slot ", i);
+            let b = put_message(out, a, m);
+            put_words(out, b, b"\n")
+        }
+    }
+}
+
+fn put_wire(out: &mut [u8], at: usize, wire: [Slot; 256]) -> usize
+    ensures { λ r. ⌜ Printed (now (out .entry)) at (eachBelow 256 (λ i. slotLine i (heldIn wire i))) r (now (out .exit)) ⌝ }
+{
+    let mut next = at;
+    let mut i: usize = 0;
+    while i < 256 {
+        let slot = wire[i];
+        let held = slot.held;
+        next = put_slot(out, next, i, held);
+        i += 1;
+    }
+    next
+}
+
+// ---- a client's line
+
+fn put_goal(out: &mut [u8], at: usize, goal: Goal) -> usize
+    ensures { λ r. ⌜ Printed (now (out .entry)) at (goalText goal) r (now (out .exit)) ⌝ }
+{
+    match goal {
+        Goal::Read => put_words(out, at, b" read"),
+        Goal::Write(v) => {
+            let next = put_words(out, at, b" write ");
+            put_value(out, next, v)
+        }
+    }
+}
+
+fn put_member(out: &mut [u8], at: usize, set: u16, k: u8) -> usize
+    ensures { λ r. ⌜ Printed (now (out .entry)) at (memberText set k) r (now (out .exit)) ⌝ }
+{
+    if quorum::has(set, Replica(k)) {
+        return put_field(out, at, b" ", k as usize);
+    }
+    at
+}
+
+// Each replica of a set, or that there is none.
+fn put_members(out: &mut [u8], at: usize, set: u16) -> usize
+    ensures { λ r. ⌜ Printed (now (out .entry)) at (membersText set) r (now (out .exit)) ⌝ }
+{
+    if set == 0 {
+        return put_words(out, at, b" none");
+    }
+    let mut next = at;
+    let mut k: u8 = 0;
+    while k < 16 {
+        next = put_member(out, next, set, k);
+        k += 1;
+    }
+    next
+}
+
+// What an open operation is for, and who has answered.
+fn put_open(out: &mut [u8], at: usize, op: u16, cell: u8, goal: Goal, set: u16) -> usize
+    ensures { λ r. ⌜ Printed (now (out .entry)) at (openText op cell goal set) r (now (out .exit)) ⌝ }
+{
+    let a = put_goal(out, at, goal);
+    let b = put_field(out, a, b" cell ", cell as usize);
+    let c = put_field(out, b, b" op ", op as usize);
+    let d = put_words(out, c, b" from");
+    put_members(out, d, set)
+}
+
+fn put_held(out: &mut [u8], at: usize, held: Pair) -> usize
+    ensures { λ r. ⌜ Printed (now (out .entry)) at (heldText held) r (now (out .exit)) ⌝ }
+{
+    let next = put_words(out, at, b" held ");
+    put_pair(out, next, held)
+}
+
+// In the ask phase nothing is held while the set is empty.
+fn put_first_held(out: &mut [u8], at: usize, set: u16, held: Pair) -> usize
+    ensures { λ r. ⌜ Printed (now (out .entry)) at (firstHeld set held) r (now (out .exit)) ⌝ }
+{
+    if set == 0 {
+        return put_words(out, at, b" held none");
+    }
+    put_held(out, at, held)
+}
+
+fn put_asking(
+    out: &mut [u8],
+    at: usize,
+    op: u16,
+    cell: Cell,
+    goal: Goal,
+    set: u16,
+    held: Pair,
+) -> usize
+    ensures { λ r. ⌜ Printed (now (out .entry)) at (askingWord ++ (openText op (cell .0) goal set ++ firstHeld set held)) r (now (out .exit)) ⌝ }
+{
+    let a = put_words(out, at, b" asking");
+    let b = put_open(out, a, op, cell.0, goal, set);
+    put_first_held(out, b, set, held)
+}
+
+fn put_keeping(
+    out: &mut [u8],
+    at: usize,
+    op: u16,
+    cell: Cell,
+    goal: Goal,
+    set: u16,
+    held: Pair,
+) -> usize
+    ensures { λ r. ⌜ Printed (now (out .entry)) at (keepingWord ++ (openText op (cell .0) goal set ++ heldText held)) r (now (out .exit)) ⌝ }
+{
+    let a = put_words(out, at, b" keeping");
+    let b = put_open(out, a, op, cell.0, goal, set);
+    put_held(out, b, held)
+}
+
+fn put_work(out: &mut [u8], at: usize, op: u16, work: Work) -> usize
+    ensures { λ r. ⌜ Printed (now (out .entry)) at (workText op work) r (now (out .exit)) ⌝ }
+{
+    match work {
+        Work::Idle => put_field(out, at, b" idle op ", op as usize),
+        Work::Asking {
+            cell,
+            goal,
+            set,
+            held,
+        } => put_asking(out, at, op, cell, goal, set, held),
+        Work::Keeping {
+            cell,
+            goal,
+            set,
+            held,
+        } => put_keeping(out, at, op, cell, goal, set, held),
+    }
+}
+
+fn put_stopped(out: &mut [u8], at: usize, stopped: bool) -> usize
+    ensures { λ r. ⌜ Printed (now (out .entry)) at (stoppedText stopped) r (now (out .exit)) ⌝ }
+{
+    if stopped {
+        return put_words(out, at, b" stopped");
+    }
+    at
+}
+
+fn put_client(out: &mut [u8], at: usize, i: usize, party: Party) -> usize
+    ensures { λ r. ⌜ Printed (now (out .entry)) at (clientLine i party) r (now (out .exit)) ⌝ }
+{
+    let work = party.work;
+    let a = put_field(out, at, b"client ", i);
+    let b = put_stopped(out, a, party.stopped);
+    let c = put_work(out, b, party.op, work);
+    put_words(out, c, b"\n")
+}
+
+// Client i; one that has done nothing where there is no such place.
+fn party_at(parties: [Party; 8], i: usize) -> Party
+    ensures { λ r. ⌜ r ≡ getD parties i idle ⌝ }
+{
+    if i < 8 {
+        return parties[i];
+    }
+    Party {
+        stopped: false,
+        op: 0,
+        work: Work::Idle,
+    }
+}
+
+fn put_clients(out: &mut [u8], at: usize, parties: [Party; 8], clients: u8) -> usize
+    ensures { λ r. ⌜ Printed (now (out .entry)) at (eachBelow clients (λ i. clientLine i (getD parties i idle))) r (now (out .exit)) ⌝ }
+{
+    let mut next = at;
+    let mut i: u8 = 0;
+    while i < clients {
+        let place = i as usize;
+        next = put_client(out, next, place, party_at(parties, place));
+        i += 1;
+    }
+    next
+}
+
+// ---- a replica's line
+
+// The pair at a place; the fresh one where there is no such place.
+fn pair_at(pairs: [Pair; 240], place: usize) -> Pair
+    ensures { λ r. ⌜ r ≡ getD pairs place freshPair ⌝ }
+{
+    if place < 240 {
+        return pairs[place];
+    }
+    fresh_pair()
+}
+
+// A replica's pair for one cell.
+fn put_cell(out: &mut [u8], at: usize, pairs: [Pair; 240], k: u8, x: u8) -> usize
+    ensures { λ r. ⌜ Printed (now (out .entry)) at (space ++ pairText (getD pairs (pairPlace k x) freshPair)) r (now (out .exit)) ⌝ }
+{
+    let pair = pair_at(pairs, 16 * (k as usize) + (x as usize));
+    let next = put_words(out, at, b" ");
+    put_pair(out, next, pair)
+}
+
+fn put_pairs(out: &mut [u8], at: usize, pairs: [Pair; 240], k: u8, cells: u8) -> usize
+    ensures { λ r. ⌜ Printed (now (out .entry)) at (eachBelow cells (λ x. space ++ pairText (getD pairs (pairPlace k x) freshPair))) r (now (out .exit)) ⌝ }
+{
+    let mut next = at;
+    let mut x: u8 = 0;
+    while x < cells {
+        next = put_cell(out, next, pairs, k, x);
+        x += 1;
+    }
+    next
+}
+
+fn put_power(out: &mut [u8], at: usize, power: u16, k: u8) -> usize
+    ensures { λ r. ⌜ Printed (now (out .entry)) at (powerText (hasReplica power k)) r (now (out .exit)) ⌝ }
+{
+    if quorum::has(power, Replica(k)) {
+        return put_words(out, at, b" on");
+    }
+    put_words(out, at, b" off")
+}
+
+fn put_replica(out: &mut [u8], at: usize, rack: Rack, k: u8) -> usize
+    ensures { λ r. ⌜ Printed (now (out .entry)) at (replicaLine rack k) r (now (out .exit)) ⌝ }
+{
+    let sizes = rack.sizes;
+    let pairs = rack.pairs;
+    let a = put_field(out, at, b"replica ", k as usize);
+    let b = put_power(out, a, rack.power, k);
+    let c = put_pairs(out, b, pairs, k, sizes.cells);
+    put_words(out, c, b"\n")
+}
+
+fn put_replicas(out: &mut [u8], at: usize, rack: Rack) -> usize
+    ensures { λ r. ⌜ Printed (now (out .entry)) at (eachBelow (rack .sizes .replicas) (λ k. replicaLine rack k)) r (now (out .exit)) ⌝ }
+{
+    let sizes = rack.sizes;
+    let n = sizes.replicas;
+    let mut next = at;
+    let mut k: u8 = 0;
+    while k < n {
+        next = put_replica(out, next, rack, k);
+        k += 1;
+    }
+    next
+}
+
+// ---- the record
+
+// Two, three and four numbers, in hex as they are written in a record.
+fn put_two(out: &mut [u8], at: usize, x: u32, y: u32) -> usize
+    ensures { λ r. ⌜ Printed (now (out .entry)) at (hexText (numberBytes x ++ numberBytes y)) r (now (out .exit)) ⌝ }
+{
+    let next = put_hex_number(out, at, x);
+    put_hex_number(out, next, y)
+}
+
+fn put_three(out: &mut [u8], at: usize, x: u32, y: u32, z: u32) -> usize
+    ensures { λ r. ⌜ Printed (now (out .entry)) at (hexText (numberBytes x ++ (numberBytes y ++ numberBytes z))) r (now (out .exit)) ⌝ }
+{
+    let next = put_hex_number(out, at, x);
+    put_two(out, next, y, z)
+}
+
+fn put_four(out: &mut [u8], at: usize, x: u32, y: u32, z: u32, w: u32) -> usize
+    ensures { λ r. ⌜ Printed (now (out .entry)) at (hexText (numberBytes x ++ (numberBytes y ++ (numberBytes z ++ numberBytes w)))) r (now (out .exit)) ⌝ }
+{
+    let next = put_hex_number(out, at, x);
+    put_three(out, next, y, z, w)
+}
+
+fn put_entry(out: &mut [u8], at: usize, e: Entry) -> usize
+    ensures { λ r. ⌜ Printed (now (out .entry)) at (hexText (entryBytes e)) r (now (out .exit)) ⌝ }
+{
+    match e {
+        Entry::ReadAsked(client, cell) => put_three(out, at, 0, client.0 as u32, cell.0 as u32),
+        Entry::WriteAsked(client, cell, v) => put_four(
+            out,
+            at,
+            1,
+            client.0 as u32,
+            cell.0 as u32,
+            number::alternating(v),
+        ),
+        Entry::Told(client, v) => put_three(out, at, 2, client.0 as u32, number::alternating(v)),
+        Entry::Done(client) => put_two(out, at, 3, client.0 as u32),
+    }
+}
+
+// How many entries stand in the record's places.
+fn entries_in(count: usize) -> usize
+    ensures { λ r. ⌜ r ≡ min count 2048 ⌝ }
+{
+    if count < 2048 {
+        return count;
+    }
+    2048
+}
+
+fn put_entries(out: &mut [u8], at: usize, lines: [Line; 2048], count: usize) -> usize
+    ensures { λ r. ⌜ Printed (now (out .entry)) at (hexText (bytesOf (map (λ (l : Line). l .entry) (take count lines)))) r (now (out .exit)) ⌝ }
+{
+    let n = entries_in(count);
+    let mut next = at;
+    let mut i: usize = 0;
+    while i < n {
+        let line = lines[i];
+        let entry = line.entry;
+        next = put_entry(out, next, entry);
+        i += 1;
+    }
+    next
+}
+
+fn put_record(out: &mut [u8], at: usize, rack: Rack) -> usize
+    ensures { λ r. ⌜ Printed (now (out .entry)) at (recordLine rack) r (now (out .exit)) ⌝ }
+{
+    let lines = rack.lines;
+    let a = put_words(out, at, b"record");
+    let b = put_entries(out, a, lines, rack.count);
+    put_words(out, b, b"\n")
+}
+
+// ---- the rack, and a run
+
+fn put_sizes(out: &mut [u8], at: usize, sizes: Sizes) -> usize
+    ensures { λ r. ⌜ Printed (now (out .entry)) at (sizesLine sizes) r (now (out .exit)) ⌝ }
+{
+    let a = put_field(out, at, b"rack ", sizes.replicas as usize);
+    let b = put_field(out, a, b" ", sizes.clients as usize);
+    let c = put_field(out, b, b" ", sizes.cells as usize);
+    put_words(out, c, b"\n")
+}
+
+fn put_rack(out: &mut [u8], at: usize, rack: Rack) -> usize
+    ensures { λ r. ⌜ Printed (now (out .entry)) at (rackText rack) r (now (out .exit)) ⌝ }
+{
+    let sizes = rack.sizes;
+    let parties = rack.parties;
+    let wire = rack.wire;
+    let a = put_sizes(out, at, sizes);
+    let b = put_replicas(out, a, rack);
+    let c = put_clients(out, b, parties, sizes.clients);
+    let d = put_wire(out, c, wire);
+    put_record(out, d, rack)
+}
+
+fn put_refusal(out: &mut [u8], at: usize, refusal: u8) -> usize
+    ensures { λ r. ⌜ Printed (now (out .entry)) at (refusalText refusal) r (now (out .exit)) ⌝ }
+{
+    if refusal == 0 {
+        return put_words(out, at, b"none");
+    }
+    put_decimal(out, at, refusal as usize)
+}
+
+// How many events were done, and the refusal.
+fn put_end(out: &mut [u8], at: usize, done: usize, refusal: u8) -> usize
+    ensures { λ r. ⌜ Printed (now (out .entry)) at (field doneStart done ++ (lineFeed ++ (refusedStart ++ (refusalText refusal ++ lineFeed)))) r (now (out .exit)) ⌝ }
+{
+    let a = put_field(out, at, b"done ", done);
+    let b = put_words(out, a, b"\n");
+    let c = put_words(out, b, b"refused ");
+    let d = put_refusal(out, c, refusal);
+    put_words(out, d, b"\n")
+}
+
+// The lines of a run, from a place on as far as the lent bytes go; the place after them.
+pub fn put_ran(out: &mut [u8], at: usize, ran: Ran) -> usize
+    ensures { λ r. ⌜ Printed (now (out .entry)) at (ranText ran) r (now (out .exit)) ⌝ }
+{
+    let rack = ran.rack;
+    let next = put_end(out, at, ran.done, ran.refusal);
+    put_rack(out, next, rack)
+}
+
+// The line of a script's fault.
+pub fn put_fault(out: &mut [u8], at: usize, refusal: u8, byte: usize) -> usize
+    ensures { λ r. ⌜ Printed (now (out .entry)) at (faultLine refusal byte) r (now (out .exit)) ⌝ }
+{
+    let a = put_field(out, at, b"refused ", refusal as usize);
+    let b = put_field(out, a, b" at byte ", byte);
+    put_words(out, b, b"\n")
+}

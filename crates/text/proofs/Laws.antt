@@ -1,0 +1,112 @@
+-- What one more byte of a text leaves.
+use Prim.Native.Nat.{ℕ, zero, suc, _+_, _-_, _/_, _%_, _≤_, _<_}
+use mathlib.Core.Path.{_≡_, refl, sym, ap, ap₂, _∙_}
+use mathlib.Core.List.{List, [], _∷_, _++_, append-nil}
+use native.Mathlib.Omega.{arith}
+use native.Mathlib.Numerals.{add-one}
+use lib.ListN.{length, getD, take, drop}
+use lib.Seq.{take-suc, take-all, sets, sets-eq, length-sets, take-append-seam}
+use lib.IntN.{ℤ, pos, negsuc}
+use mir.Syntax.{w32}
+use mir.Val.{SFits, toZ, ofZ}
+use mir.Facts.{toZ-ofZ}
+use borrow.Author.Tests.{lt-ltb, le-ltb}
+use Rattle.number.specs.Value.{alternatingOf}
+use Rattle.number.specs.Number.{numberBytes, Placed}
+use Rattle.number.specs.Laws.{length-few, put-fits, put-writes}
+use Rattle.number.specs.declared.Put.{Put}
+use Rattle.number.specs.declared.Put.the-variants.{Next, NoRoom}
+use Rattle.text.specs.Text.{digitsOf, decimal, valueText, hexByte, hexText, Printed}
+use Rattle.text.specs.Printing.{nothing, join, same-text, hex-append}
+
+-- ---- words and bytes in hex, the next after the first i
+
+-- the first i + 1 are the first i and the next
+one-more : (words : List ℕ) (i : ℕ) → i < length words → take i words ++ (getD words i 0 ∷ []) ≡ take (i + 1) words
+one-more words i h = sym (take-suc words i 0 h) ∙ ap (λ (k : ℕ). take k words) (sym (add-one i))
+
+hex-one : (b : ℕ) → hexByte b ≡ hexText (b ∷ [])
+unfolding hexText
+hex-one b = sym (append-nil (hexByte b))
+
+module _ {l : List ℕ} {at : ℕ} {l′ : List ℕ} {a : ℕ} (words : List ℕ) (i : ℕ) where
+  pub next-word : {r : ℕ} {l″ : List ℕ} → i < length words → Printed l at (take i words) a l′ → Printed l′ a (getD words i 0 ∷ []) r l″ → Printed l at (take (i + 1) words) r l″
+  next-word h v w = same-text (one-more words i h) (join v w)
+
+  pub all-words : length words ≤ i → Printed l at (take i words) a l′ → Printed l at words a l′
+  all-words h v = same-text (take-all i words h) v
+
+  pub next-hex : {r : ℕ} {l″ : List ℕ} → i < length words → Printed l at (hexText (take i words)) a l′ → Printed l′ a (hexByte (getD words i 0)) r l″ → Printed l at (hexText (take (i + 1) words)) r l″
+  next-hex h v w =
+      same-text (hex-append (take i words) (getD words i 0 ∷ []) ∙ ap hexText (one-more words i h)) (join v (same-text (hex-one (getD words i 0)) w))
+
+  pub all-hex : length words ≤ i → Printed l at (hexText (take i words)) a l′ → Printed l at (hexText words) a l′
+  all-hex h v = same-text (ap hexText (take-all i words h)) v
+
+pub no-hex : {l : List ℕ} {at : ℕ} → Printed l at (hexText []) at l
+unfolding hexText
+no-hex = nothing
+
+-- ---- digits
+
+module _ (l : List ℕ) (at : ℕ) where
+  pub none : (places n : ℕ) → places ≡ 0 → Printed l at (digitsOf places n) at l
+  unfolding digitsOf
+  none zero n e = nothing
+  none (suc p) n e = absurd (omega (arith, e))
+
+  pub one : (places n : ℕ) {r : ℕ} {l′ : List ℕ} → (places ≡ 0 → ⊥) → n < 10 → Printed l at ((48 + n) ∷ []) r l′ → Printed l at (digitsOf places n) r l′
+  unfolding digitsOf
+  one zero n e h w = absurd (e refl)
+  one (suc p) n e h w = rw (lt-ltb n 10 h) w
+
+  -- one more digit, after those of the tenth part
+  pub more : (places n : ℕ) {a r : ℕ} {l′ l″ : List ℕ} → (places ≡ 0 → ⊥) → 10 ≤ n → Printed l at (digitsOf (places - 1) (n / 10)) a l′ → Printed l′ a ((48 + n % 10) ∷ []) r l″ → Printed l at (digitsOf places n) r l″
+  unfolding digitsOf
+  more zero n e h v w = absurd (e refl)
+  more (suc p) n e h v w =
+      let same : suc p - 1 ≡ p = omega arith in
+      rw (le-ltb n 10 h) (join (same-text (ap (λ (k : ℕ). digitsOf k (n / 10)) same) v) w)
+
+-- ---- values
+
+-- what `alternating` was handed is the value itself
+pub handed : (v : ℤ) (n : ℕ) → SFits w32 v → n ≡ alternatingOf (toZ w32 (ofZ w32 v)) → n ≡ alternatingOf v
+handed v n h e = e ∙ ap alternatingOf (toZ-ofZ {w = w32} {z = v} h)
+
+module _ {l : List ℕ} {at r : ℕ} {l′ : List ℕ} where
+  pub value-even : (v : ℤ) (n : ℕ) → n ≡ alternatingOf v → n % 2 ≡ 0 → Printed l at (decimal (n / 2)) r l′ → Printed l at (valueText v) r l′
+  unfolding alternatingOf valueText
+  value-even (pos m) n e h w = let d : n / 2 ≡ m = omega arith in same-text (ap decimal d) w
+  value-even (negsuc m) n e h w = absurd (omega arith)
+
+  pub value-odd : (v : ℤ) (n : ℕ) → n ≡ alternatingOf v → (n % 2 ≡ 0 → ⊥) → Printed l at ((45 ∷ []) ++ decimal (n / 2 + 1)) r l′ → Printed l at (valueText v) r l′
+  unfolding alternatingOf valueText
+  value-odd (pos m) n e h w = absurd (h (omega arith))
+  value-odd (negsuc m) n e h w = let d : n / 2 ≡ m = omega arith in same-text (ap (λ (k : ℕ). 45 ∷ decimal (k + 1)) d) w
+
+-- ---- a number's bytes, in five bytes that were lent for them
+
+-- they fit, and they are what stands in front
+pub record InFive (n next : ℕ) (d : List ℕ) : Type 0 where
+  pub few : next ≤ length d
+  pub are : take next d ≡ numberBytes n
+
+pub in-five : (d d′ : List ℕ) (n next : ℕ) (r : Put) → length d ≡ 5 → Placed d 0 n r d′ → r ≡ Next next → InFive n next d′
+in-five d d′ n next r h p q =
+    let few = length-few n in
+    let a : Next next ≡ Next (0 + length (numberBytes n)) = sym q ∙ p .answer ∙ put-fits d 0 n (omega arith) in
+    let e : next ≡ 0 + length (numberBytes n) = cc in
+    let f : next ≡ length (numberBytes n) = omega arith in
+    let s : d′ ≡ sets d 0 (numberBytes n) = p .bytes ∙ put-writes d 0 n (omega arith) in
+    let front : sets d 0 (numberBytes n) ≡ numberBytes n ++ drop (0 + length (numberBytes n)) d = sets-eq (numberBytes n) d 0 (omega arith) in
+    record {
+      few = omega (arith, ap length s, length-sets d 0 (numberBytes n));
+      are = ap₂ (λ (k : ℕ) (xs : List ℕ). take k xs) f (s ∙ front) ∙ take-append-seam (numberBytes n) (drop (0 + length (numberBytes n)) d);
+    }
+
+pub always-room : (d d′ : List ℕ) (n : ℕ) (r : Put) {A : Type 0} → length d ≡ 5 → Placed d 0 n r d′ → r ≡ NoRoom → A
+always-room d d′ n r h p q =
+    let few = length-few n in
+    let a : NoRoom ≡ Next (0 + length (numberBytes n)) = sym q ∙ p .answer ∙ put-fits d 0 n (omega arith) in
+    let z : _≡_ {A = ℕ} 0 1 = cc in absurd (omega arith)
