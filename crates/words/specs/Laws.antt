@@ -1,0 +1,2 @@
+-- Laws.
+use Prim.Native.Nat.{ℕ}

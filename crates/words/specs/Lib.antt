@@ -1,0 +1,7 @@
+-- Definitions. Layout: where the words of a rack stand. Reading: the rack of words. Writing: the words of a rack. Calls: what the calls leave.
+pub mod Layout
+pub mod Reading
+pub mod Writing
+pub mod Calls
+-- Laws.
+pub mod Laws
