@@ -11,13 +11,13 @@ use lib.IntN.{ℤ}
 use mir.Syntax.{w32}
 use mir.Val.{toZ, ofZ}
 use mir.Facts.{toZ-ofZ}
-use borrow.Author.Tests.{ltb-true}
+use borrow.Author.Tests.{lt-ltb, le-ltb, ltb-true}
 use Rattle.number.specs.Value.{signedOf}
 use Rattle.number.specs.ValueLaws.{signed-fits}
 use Rattle.rack.specs.Sound.{allBelow}
 use Rattle.rack.specs.Tests.{and-left, and-right}
-use Rattle.words.specs.Layout.{firsts}
-use Rattle.words.specs.Reading.{partyKnown, messageKnown}
+use Rattle.words.specs.Layout.{entryPlace, word, firsts}
+use Rattle.words.specs.Reading.{partyKnown, messageKnown, lineKnown, countOf, countIn}
 
 firsts-long : {A : Type 0} (n : ℕ) (f : ℕ → A) → length (firsts n f) ≡ n
 unfolding firsts
@@ -91,3 +91,21 @@ fewer h = omega arith
 
 pub all-end : (n i : ℕ) (f : ℕ → Bool) → n ≤ i → i ≤ n → allBelow i f ≡ true → true ≡ allBelow n f
 all-end n i f h l e = let k : i ≡ n = omega arith in sym (ap (λ (j : ℕ). allBelow j f) (sym k) ∙ e)
+
+-- ---- the count
+
+pub count-more : (ws : List ℕ) → 2048 < word ws 4 → 2049 ≡ countIn ws
+unfolding countIn
+count-more ws h = rw (lt-ltb 2048 (word ws 4) h)
+
+pub count-unknown : (ws : List ℕ) (n : ℕ) (t : Bool) → word ws 4 ≤ 2048 → n ≡ countOf ws → t ≡ allBelow n (λ i. lineKnown ws (entryPlace i)) → t ≡ false → 2049 ≡ countIn ws
+unfolding countIn
+count-unknown ws n t h e p q =
+    let a : allBelow (countOf ws) (λ i. lineKnown ws (entryPlace i)) ≡ false = ap (λ (k : ℕ). allBelow k (λ i. lineKnown ws (entryPlace i))) (sym e) ∙ sym p ∙ q in
+    rw (le-ltb 2048 (word ws 4) h, a)
+
+pub count-known : (ws : List ℕ) (n : ℕ) (t : Bool) → word ws 4 ≤ 2048 → n ≡ countOf ws → t ≡ allBelow n (λ i. lineKnown ws (entryPlace i)) → t ≡ true → word ws 4 ≡ countIn ws
+unfolding countIn
+count-known ws n t h e p q =
+    let a : allBelow (countOf ws) (λ i. lineKnown ws (entryPlace i)) ≡ true = ap (λ (k : ℕ). allBelow k (λ i. lineKnown ws (entryPlace i))) (sym e) ∙ sym p ∙ q in
+    rw (le-ltb 2048 (word ws 4) h, a)

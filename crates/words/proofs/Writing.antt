@@ -1,11 +1,27 @@
 -- Words that are written one after another.
-use Prim.Native.Nat.{ℕ, zero, suc, _+_, _≤_, _<_}
+use Prim.Native.Nat.{ℕ, zero, suc, _+_, _^_, _≤_, _<_}
 use mathlib.Core.Path.{_≡_, refl, ap, sym, _∙_}
 use mathlib.Core.List.{List, [], _∷_, _++_}
 use native.Mathlib.Omega.{arith}
 use lib.ListN.{length, getD, set, take}
 use lib.Seq.{sets, length-sets, take-suc, take-all, length-take-le}
-use Rattle.words.specs.Writing.{putFirsts}
+use lib.IntN.{ℤ}
+use lib.Signed.{mag}
+use mir.Syntax.{w32}
+use mir.Val.{toZ, ofZ}
+use mir.Facts.{toZ-ofZ}
+use Rattle.number.specs.Value.{alternatingOf}
+use Rattle.record.specs.declared.Cell.{Cell}
+use Rattle.rack.specs.declared.Goal.{Goal}
+use Rattle.rack.specs.declared.Goal.the-variants.{Read, Write}
+use Rattle.rack.specs.declared.Held.the-variants.{Full}
+use Rattle.rack.specs.declared.Message.{Message}
+use Rattle.rack.specs.declared.Pair.{Pair}
+use Rattle.rack.specs.declared.Party.{Party}
+use Rattle.rack.specs.declared.Rack.{Rack}
+use Rattle.rack.specs.declared.Work.{Work}
+use Rattle.rack.specs.declared.Work.the-variants.{Asking, Keeping}
+use Rattle.words.specs.Writing.{pairWords, openWords, toldWords, workWords, flag, partyWords, bodyKind, bodyWords, slotWords, putFirsts, headOf, partiesPut, pairsPut, wirePut, recordPut, writtenOf}
 
 -- some and then some more
 pub sets-more : (d : List ℕ) (at : ℕ) (xs ys : List ℕ) → sets (sets d at xs) (at + length xs) ys ≡ sets d at (xs ++ ys)
@@ -71,3 +87,43 @@ stores-on place f n d e o i g h p =
 
 pub stores-end : (place : ℕ → ℕ) (f : ℕ → List ℕ) (n : ℕ) (d e : List ℕ) (i : ℕ) → Storing place f n d e i → n ≤ i → e ≡ putFirsts n place f d
 stores-end place f n d e i g h = let k : i ≡ n = omega (arith, g .most) in g .list ∙ ap (λ (j : ℕ). putFirsts j place f d) k
+
+-- a value that is written
+pub alternated : (z : ℤ) (r : ℕ) → mag z < 2 ^ 31 → r ≡ alternatingOf (toZ w32 (ofZ w32 z)) → alternatingOf z ≡ r
+alternated z r h e = sym (e ∙ ap alternatingOf (toZ-ofZ {w = w32} {z = z} (record { sfits = h })))
+
+pub open-long : (phase : ℕ) (cell : Cell) (goal : Goal) (set : ℕ) → length (openWords phase cell goal set) ≡ 5
+unfolding openWords
+open-long phase cell Read set = refl
+open-long phase cell (Write v) set = refl
+
+-- part after part
+pub written : (r : Rack) (d a b c e : List ℕ) → a ≡ headOf r d → b ≡ pairsPut r (partiesPut r a) → c ≡ wirePut r b → e ≡ recordPut r c → e ≡ writtenOf r d
+unfolding writtenOf
+written r d a b c e p q s t = t ∙ ap (recordPut r) (s ∙ ap (wirePut r) (q ∙ ap (λ (w : List ℕ). pairsPut r (partiesPut r w)) p))
+
+-- what stands after the two parts of a client or of a message
+pub asking-written : (d e o : List ℕ) (at : ℕ) (w : Work) (cell : Cell) (goal : Goal) (set : ℕ) (held : Pair) → w ≡ Asking cell goal set held
+    → e ≡ sets d at (openWords 1 cell goal set) → o ≡ sets e (at + 5) (toldWords set held) → o ≡ sets d at (workWords w)
+unfolding workWords
+asking-written d e o at w cell goal set held ew p q =
+    rw ew (sets-then d e o at (at + 5) 5 (openWords 1 cell goal set) (toldWords set held) p q (open-long 1 cell goal set) refl)
+
+pub keeping-written : (d e o : List ℕ) (at : ℕ) (w : Work) (cell : Cell) (goal : Goal) (set : ℕ) (held : Pair) → w ≡ Keeping cell goal set held
+    → e ≡ sets d at (openWords 2 cell goal set) → o ≡ sets e (at + 5) (pairWords held) → o ≡ sets d at (workWords w)
+unfolding workWords
+keeping-written d e o at w cell goal set held ew p q =
+    rw ew (sets-then d e o at (at + 5) 5 (openWords 2 cell goal set) (pairWords held) p q (open-long 2 cell goal set) refl)
+
+pub party-written : (d e o : List ℕ) (at : ℕ) (p : Party) (s : ℕ) → s ≡ flag (p .stopped) → e ≡ sets d at (s ∷ p .op ∷ [])
+    → o ≡ sets e (at + 2) (workWords (p .work)) → o ≡ sets d at (partyWords p)
+unfolding partyWords
+party-written d e o at p s es q t =
+    sets-then d e o at (at + 2) 2 (s ∷ p .op ∷ []) (workWords (p .work)) q t refl refl ∙ ap (λ (k : ℕ). sets d at ((k ∷ p .op ∷ []) ++ workWords (p .work))) es
+
+pub message-written : (d e o : List ℕ) (at : ℕ) (m : Message) (k : ℕ) → k ≡ bodyKind (m .body)
+    → e ≡ sets d at (1 ∷ k ∷ m .client .0 ∷ m .replica .0 ∷ m .cell .0 ∷ m .op ∷ []) → o ≡ sets e (at + 6) (bodyWords (m .body)) → o ≡ sets d at (slotWords (Full m))
+unfolding slotWords
+message-written d e o at m k ek q t =
+    sets-then d e o at (at + 6) 6 (1 ∷ k ∷ m .client .0 ∷ m .replica .0 ∷ m .cell .0 ∷ m .op ∷ []) (bodyWords (m .body)) q t refl refl
+    ∙ ap (λ (j : ℕ). sets d at ((1 ∷ j ∷ m .client .0 ∷ m .replica .0 ∷ m .cell .0 ∷ m .op ∷ []) ++ bodyWords (m .body))) ek

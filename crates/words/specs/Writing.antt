@@ -7,6 +7,8 @@ use lib.ListN.{getD, replicate}
 use lib.Seq.{sets}
 use Rattle.number.specs.Value.{alternatingOf}
 use Rattle.record.specs.declared.Cell.{Cell}
+use Rattle.record.specs.declared.Entry.{Entry}
+use Rattle.record.specs.declared.Entry.the-variants.{ReadAsked}
 use Rattle.record.specs.Entry.{rowOf}
 use Rattle.rack.specs.declared.Pair.{Pair}
 use Rattle.rack.specs.declared.Body.{Body}
@@ -18,11 +20,11 @@ use Rattle.rack.specs.declared.Goal.the-variants.{Read, Write}
 use Rattle.rack.specs.declared.Work.{Work}
 use Rattle.rack.specs.declared.Work.the-variants.{Idle, Asking, Keeping}
 use Rattle.rack.specs.declared.Party.{Party}
+use Rattle.rack.specs.declared.Line.{Line}
 use Rattle.rack.specs.declared.Rack.{Rack}
 use Rattle.rack.specs.Stamp.{freshPair}
 use Rattle.rack.specs.Places.{partyAt, heldAt}
 use Rattle.words.specs.Layout.{partyPlace, pairPlace, slotPlace, entryPlace}
-use Rattle.words.specs.Reading.{blank}
 
 unfoldable pub pairWords : Pair → List ℕ
 pairWords p = p .stamp .number ∷ p .stamp .rank ∷ alternatingOf (p .value) ∷ []
@@ -94,8 +96,12 @@ pairsPut r ws = putFirsts (16 * r .sizes .replicas) pairPlace (λ i. pairWritten
 unfoldable pub wirePut : Rack → List ℕ → List ℕ
 wirePut r ws = putFirsts 256 slotPlace (λ i. slotWords (heldAt r i)) ws
 
+-- entry i of the record; past the end of the array, where no count leads, a read
+abbrev pub entryIn : List Line → ℕ → Entry
+entryIn lines i = getD lines i (record { entry = ReadAsked (record { 0 = 0 }) (record { 0 = 0 }) }) .entry
+
 unfoldable pub recordPut : Rack → List ℕ → List ℕ
-recordPut r ws = putFirsts (r .count) entryPlace (λ i. rowOf (getD (r .lines) i blank .entry)) ws
+recordPut r ws = putFirsts (r .count) entryPlace (λ i. rowOf (entryIn (r .lines) i)) ws
 
 -- what stands in the words ws after the rack is written
 unfoldable pub writtenOf : Rack → List ℕ → List ℕ

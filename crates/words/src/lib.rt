@@ -11,8 +11,8 @@ ghost use Rattle.rack.specs.Stamp.{freshPair};
 ghost use Rattle.rack.specs.Places.{idle, heldIn};
 ghost use Rattle.rack.specs.Sound.{allBelow, soundOf};
 ghost use Rattle.words.specs.Layout.{wordCount, partyPlace, pairPlace, slotPlace, entryPlace, firsts};
-ghost use Rattle.words.specs.Reading.{byteOf, setOf, pairIn, goalOf, workOf, workIn, partyKnown, strayParty, partyIn, bodyOf, messageKnown, strayHeld, fullIn, heldOf, slotIn, entryKnown, lineKnown, lineIn, linesIn, blank, countOf, countIn, powerOf, sizesIn, rackOf};
-ghost use Rattle.words.specs.Writing.{pairWords, noPair, openWords, toldWords, workWords, flag, partyWords, bodyKind, bodyWords, slotWords, putFirsts, headOf, partiesPut, pairWritten, pairsPut, writtenOf};
+ghost use Rattle.words.specs.Reading.{byteOf, setOf, pairIn, goalOf, workOf, workIn, partyKnown, strayParty, partyIn, bodyOf, messageKnown, strayHeld, fullIn, heldOf, slotIn, entryKnown, lineKnown, lineIn, linesIn, countOf, countIn, powerOf, sizesIn, rackOf};
+ghost use Rattle.words.specs.Writing.{pairWords, noPair, openWords, toldWords, workWords, flag, partyWords, bodyKind, bodyWords, slotWords, putFirsts, headOf, partiesPut, pairWritten, pairsPut, entryIn, writtenOf};
 ghost use Rattle.words.specs.Calls.{madeOutcome, runOutcome};
 use rack::Body;
 use rack::Goal;
@@ -715,7 +715,7 @@ fn put_wire(words: &mut [u32], wire: [Slot; 256])
 
 fn put_lines(words: &mut [u32], lines: [Line; 2048], n: usize)
     requires { ⌜ (length (now words) ≡ wordCount) × (n ≤ 2048) ⌝ }
-    ensures { λ r. ⌜ now (words .exit) ≡ putFirsts n entryPlace (λ i. rowOf (getD lines i blank .entry)) (now (words .entry)) ⌝ }
+    ensures { λ r. ⌜ now (words .exit) ≡ putFirsts n entryPlace (λ i. rowOf (entryIn lines i)) (now (words .entry)) ⌝ }
 {
     let mut i: usize = 0;
     while i < n {

@@ -1,37 +1,30 @@
+-- `words::count_in` meets its contract.
+use borrow.Author.Tests.{not-true, not-false}
+use Rattle.words.proofs.Reading.{count-more, count-unknown, count-known}
 use borrow.Author.Needs.{needs}
 use Rattle.words.proofs.count_in.Statement.{statement}
 use Rattle.words.proofs.count_in.Tie as tie
-use Rattle.words.proofs.count_in.Reads as reads
-use Rattle.words.proofs.count_in.Lts as lts
-use Rattle.words.proofs.lines_known.Reads as lines-known-reads
 
--- src/lib.rt:397:15
 shared-slice-read-if1 : tie.Need-shared-slice-read-if1
 shared-slice-read-if1 c = search needs
 
--- src/lib.rt:398:9
 returns : tie.Need-returns
-returns c = ?
+returns c = count-more _ (c .if1 .taken)
 
--- src/lib.rt:400:9
 lines-known-requires : tie.Need-lines-known-requires
 lines-known-requires c κs = search needs
 
--- src/lib.rt:401:9
 returns-2 : tie.Need-returns-2
-returns-2 c = ?
+returns-2 c = count-unknown _ _ _ (c .before .before .if1 .left) (c .before .before .before .before .before .pre .1 .0) (c .before .lines-known .ensures) (not-true _ (c .if2 .taken))
 
--- src/lib.rt:403:5
 shared-slice-read-result : tie.Need-shared-slice-read-result
 shared-slice-read-result c = search needs
 
--- src/lib.rt:403:5
 cast-result : tie.Need-cast-result
 cast-result c = search needs
 
--- src/lib.rt:393:1
 returns-3 : tie.Need-returns-3
-returns-3 c = ?
+returns-3 c = count-known _ _ _ (c .before .before .before .if1 .left) (c .before .before .before .before .before .before .pre .1 .0) (c .before .before .lines-known .ensures) (not-false _ (c .before .if2 .left))
 
 pub count-in-spec : {M : Type 1} → statement M
 count-in-spec =

@@ -2,7 +2,7 @@
 use Prim.Native.Nat.{_-_}
 use Rattle.words.specs.Layout.{entryPlace}
 use Rattle.words.specs.Reading.{lineIn, linesIn}
-use Rattle.words.proofs.Reading.{Filling, fills, fills-room, fills-on, fills-end}
+use Rattle.words.proofs.Reading.{Filling, fills, fills-on, fills-end}
 use borrow.Author.Needs.{needs}
 use Rattle.words.proofs.lines_of.Statement.{statement}
 use Rattle.words.proofs.lines_of.Tie as tie
@@ -29,7 +29,7 @@ mul-lines : tie.Need-mul-lines Inv-loop μ-loop
 mul-lines c = search needs
 
 array-set-from-lines : tie.Need-array-set-from-lines Inv-loop μ-loop
-array-set-from-lines c = fills-room _ _ _ _ _ (c .before .before .loop .inv) (c .before .loop-test .taken)
+array-set-from-lines c = search needs
 
 add-i : tie.Need-add-i Inv-loop μ-loop
 add-i c = search needs

@@ -37,7 +37,7 @@ shared-slice-read-t9 c = search needs
 
 returns : tie.Need-returns
 unfolding pairIn
-returns c = rw (signed-held (c .before .signed .result) _ (search needs) (c .before .signed .ensures), c .before .before .before .byte .ensures)
+returns c = rw (signed-held (c .before .signed .result) _ (c .before .before .shared-slice-known3 .given _ .fits) (c .before .signed .ensures), c .before .before .before .byte .ensures)
 
 pub pair-at-spec : {M : Type 1} → statement M
 pair-at-spec =

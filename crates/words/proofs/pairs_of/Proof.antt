@@ -2,7 +2,7 @@
 use Prim.Native.Nat.{_-_}
 use Rattle.words.specs.Layout.{pairPlace}
 use Rattle.words.specs.Reading.{pairIn}
-use Rattle.words.proofs.Reading.{Filling, fills, fills-room, fills-on, fills-all}
+use Rattle.words.proofs.Reading.{Filling, fills, fills-on, fills-all}
 use borrow.Author.Needs.{needs}
 use native.Mathlib.Omega.{arith}
 use Rattle.words.proofs.pairs_of.Statement.{statement}
@@ -30,7 +30,7 @@ mul-pairs : tie.Need-mul-pairs Inv-loop μ-loop
 mul-pairs c = search needs
 
 array-set-from-pairs : tie.Need-array-set-from-pairs Inv-loop μ-loop
-array-set-from-pairs c = fills-room _ _ _ _ _ (c .before .before .loop .inv) (c .before .loop-test .taken)
+array-set-from-pairs c = search needs
 
 add-i : tie.Need-add-i Inv-loop μ-loop
 add-i c = search needs

@@ -2,7 +2,7 @@
 use Prim.Native.Nat.{_-_}
 use Rattle.words.specs.Layout.{partyPlace}
 use Rattle.words.specs.Reading.{partyIn}
-use Rattle.words.proofs.Reading.{Filling, fills, fills-room, fills-on, fills-all}
+use Rattle.words.proofs.Reading.{Filling, fills, fills-on, fills-all}
 use borrow.Author.Needs.{needs}
 use native.Mathlib.Omega.{arith}
 use Rattle.words.proofs.parties_of.Statement.{statement}
@@ -33,7 +33,7 @@ mul-parties : tie.Need-mul-parties Inv-loop μ-loop
 mul-parties c = search needs
 
 array-set-from-parties : tie.Need-array-set-from-parties Inv-loop μ-loop
-array-set-from-parties c = fills-room _ _ _ _ _ (c .before .before .loop .inv) (c .before .loop-test .taken)
+array-set-from-parties c = search needs
 
 add-i : tie.Need-add-i Inv-loop μ-loop
 add-i c = search needs

@@ -64,7 +64,7 @@ shared-slice-read-t27 : tie.Need-shared-slice-read-t27
 shared-slice-read-t27 c = search needs
 
 cast-t28 : tie.Need-cast-t28
-cast-t28 c = party-op _ _ _ _ (sym (c .before .before .before .before .party-known .ensures) ∙ c .before .before .before .if1 .taken)
+cast-t28 c = record { fits = party-op _ _ _ _ (sym (c .before .before .before .before .party-known .ensures) ∙ c .before .before .before .if1 .taken) }
 
 returns : tie.Need-returns
 unfolding partyIn

@@ -1,58 +1,52 @@
+-- `words::put_lines` meets its contract.
+use Prim.Native.Nat.{_-_}
+use Rattle.words.specs.Layout.{entryPlace}
+use Rattle.words.proofs.Writing.{Storing, stores, stores-long, stores-on, stores-end}
+use Rattle.record.specs.Entry.{rowOf}
+use Rattle.words.specs.Writing.{entryIn}
+use borrow.Author.Needs.{needs}
+use native.Mathlib.Omega.{arith}
 use Rattle.words.proofs.put_lines.Statement.{statement}
 use Rattle.words.proofs.put_lines.Tie as tie
-use Rattle.words.proofs.put_lines.Reads as reads
-use Rattle.words.proofs.put_lines.Lts as lts
-use Rattle.words.proofs.put_entry.Reads as put-entry-reads
 
 abbrev Inv-loop : tie.InvT-loop
-Inv-loop words₀ n lines i₀ words i = ?
+Inv-loop words₀ n lines i₀ words i = Storing entryPlace (λ j. rowOf (entryIn lines j)) n words₀ words i
 
 abbrev μ-loop : tie.MeasureT-loop
-μ-loop words₀ n lines i₀ words i = ?
+μ-loop words₀ n lines i₀ words i = n - i
 
--- src/lib.rt:721:5
 loop-holds : tie.Need-loop-holds Inv-loop μ-loop
-loop-holds c = ?
+loop-holds c = stores _ _ _ _
 
--- src/lib.rt:722:20
 mul-line : tie.Need-mul-line Inv-loop μ-loop
-mul-line c = ?
+mul-line c = search needs
 
--- src/lib.rt:722:20
 array-copy-out-line : tie.Need-array-copy-out-line Inv-loop μ-loop
-array-copy-out-line c = ?
+array-copy-out-line c = search needs
 
--- src/lib.rt:724:33
 mul-put-entry : tie.Need-mul-put-entry Inv-loop μ-loop
-mul-put-entry c = ?
+mul-put-entry c = search needs
 
--- src/lib.rt:724:26
 add-put-entry : tie.Need-add-put-entry Inv-loop μ-loop
-add-put-entry c = ?
+add-put-entry c = search needs
 
--- src/lib.rt:724:9
 put-entry-requires : tie.Need-put-entry-requires Inv-loop μ-loop
-put-entry-requires c κs = ?
+put-entry-requires c κs = omega (arith, stores-long _ _ _ _ _ _ (c .before .before .before .loop .inv), c .before .before .before .loop .inv .most)
 
--- src/lib.rt:725:9
 add-i : tie.Need-add-i Inv-loop μ-loop
-add-i c = ?
+add-i c = search needs
 
--- src/lib.rt:721:5
 loop-less : tie.Need-loop-less Inv-loop μ-loop
-loop-less c = ?
+loop-less c = search needs
 
--- src/lib.rt:721:5
 loop-again : tie.Need-loop-again Inv-loop μ-loop
-loop-again c = ?
+loop-again c = stores-on _ _ _ _ _ _ _ (c .before .before .before .before .before .before .loop .inv) (c .before .before .before .before .before .loop-test .taken) (c .before .before .put-entry .ensures)
 
--- src/lib.rt:716:1
 same-length : tie.Need-same-length Inv-loop μ-loop
-same-length c = ?
+same-length c = stores-long _ _ _ _ _ _ (c .before .loop .inv)
 
--- src/lib.rt:716:1
 returns : tie.Need-returns Inv-loop μ-loop
-returns c = ?
+returns c = stores-end _ _ _ _ _ _ (c .before .loop .inv) (c .loop-test .left)
 
 pub put-lines-spec : {M : Type 1} → statement M
 put-lines-spec =

@@ -1,42 +1,36 @@
+-- `words::put_members` meets its contract.
+use mathlib.Core.Path.{ap, _∙_}
+use Rattle.rack.specs.SoundLaws.{sound-of}
+use Rattle.words.specs.Writing.{pairsPut, partiesPut}
 use borrow.Author.Needs.{needs}
+use native.Mathlib.Omega.{arith}
 use Rattle.words.proofs.put_members.Statement.{statement}
 use Rattle.words.proofs.put_members.Tie as tie
-use Rattle.words.proofs.put_members.Reads as reads
-use Rattle.words.proofs.put_members.Lts as lts
-use Rattle.words.proofs.put_pairs.Reads as put-pairs-reads
-use Rattle.words.proofs.put_parties.Reads as put-parties-reads
 
--- src/lib.rt:736:33
 cast-put-parties : tie.Need-cast-put-parties
 cast-put-parties c = search needs
 
--- src/lib.rt:736:5
 put-parties-requires : tie.Need-put-parties-requires
-put-parties-requires c κs = ?
+put-parties-requires c κs = (c .before .before .before .before .before .pre .0, sound-of _ (c .before .before .before .before .before .pre .1) .sizes .clients)
 
--- src/lib.rt:738:35
 cast-put-pairs : tie.Need-cast-put-pairs
 cast-put-pairs c = search needs
 
--- src/lib.rt:738:29
 mul-put-pairs : tie.Need-mul-put-pairs
 mul-put-pairs c = search needs
 
--- src/lib.rt:738:61
 cast-put-pairs-2 : tie.Need-cast-put-pairs-2
 cast-put-pairs-2 c = search needs
 
--- src/lib.rt:738:5
 put-pairs-requires : tie.Need-put-pairs-requires
-put-pairs-requires c κs = ?
+put-pairs-requires c κs = (search needs, omega (arith, sound-of _ (c .before .before .before .before .before .before .before .before .before .before .before .before .pre .1) .sizes .replicas))
 
--- src/lib.rt:730:1
 same-length : tie.Need-same-length
 same-length c = search needs
 
--- src/lib.rt:730:1
 returns : tie.Need-returns
-returns c = ?
+unfolding pairsPut partiesPut
+returns c = c .before .before .put-pairs .ensures ∙ ap (pairsPut (c .before .before .before .before .before .before .before .before .before .before .before .before .before .before .before .args .rack)) (c .before .before .before .before .before .before .before .before .before .put-parties .ensures)
 
 pub put-members-spec : {M : Type 1} → statement M
 put-members-spec =

@@ -1,34 +1,28 @@
+-- `words::put_pair` meets its contract.
+use Rattle.words.specs.Writing.{pairWords}
+use Rattle.words.proofs.Writing.{alternated}
 use borrow.Author.Needs.{needs}
 use Rattle.words.proofs.put_pair.Statement.{statement}
 use Rattle.words.proofs.put_pair.Tie as tie
-use Rattle.words.proofs.put_pair.Reads as reads
-use Rattle.words.proofs.put_pair.Lts as lts
-use Rattle.number.proofs.alternating.Reads as alternating-reads
-use Rattle.words.proofs.put.Reads as put-reads
 
--- src/lib.rt:483:9
 cast-t6 : tie.Need-cast-t6
 cast-t6 c = search needs
 
--- src/lib.rt:484:9
 alternating-requires : tie.Need-alternating-requires
 alternating-requires c κs = search needs
 
--- src/lib.rt:486:20
 slice-aggregate-put : tie.Need-slice-aggregate-put
 slice-aggregate-put c = search needs
 
--- src/lib.rt:486:5
 put-requires : tie.Need-put-requires
 put-requires c κs = search needs
 
--- src/lib.rt:476:1
 same-length : tie.Need-same-length
 same-length c = search needs
 
--- src/lib.rt:476:1
 returns : tie.Need-returns
-returns c = ?
+unfolding pairWords
+returns c = simp (alternated (c .before .before .before .before .before .before .before .before .before .before .args .pair .value) (c .before .before .before .before .before .alternating .result) (search needs) (c .before .before .before .before .before .alternating .ensures)) (c .before .before .put .ensures)
 
 pub put-pair-spec : {M : Type 1} → statement M
 put-pair-spec =

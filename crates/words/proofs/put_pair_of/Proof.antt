@@ -1,33 +1,29 @@
+-- `words::put_pair_of` meets its contract.
+use borrow.Author.Tests.{lt-ltb, le-ltb}
+use Rattle.words.specs.Writing.{pairWritten}
 use borrow.Author.Needs.{needs}
 use Rattle.words.proofs.put_pair_of.Statement.{statement}
 use Rattle.words.proofs.put_pair_of.Tie as tie
-use Rattle.words.proofs.put_pair_of.Reads as reads
-use Rattle.words.proofs.put_pair_of.Lts as lts
-use Rattle.words.proofs.put_pair.Reads as put-pair-reads
 
--- src/lib.rt:687:30
 mul-put-pair : tie.Need-mul-put-pair
 mul-put-pair c = search needs
 
--- src/lib.rt:687:25
 add-put-pair : tie.Need-add-put-pair
 add-put-pair c = search needs
 
--- src/lib.rt:687:9
 put-pair-requires : tie.Need-put-pair-requires
 put-pair-requires c κs = search needs
 
--- src/lib.rt:682:1
 same-length : tie.Need-same-length
 same-length c = search needs
 
--- src/lib.rt:682:1
 returns : tie.Need-returns
-returns c = ?
+unfolding pairWritten
+returns c = rw (lt-ltb _ _ (c .before .before .before .before .if1 .taken)) (c .before .before .put-pair .ensures)
 
--- src/lib.rt:682:1
 returns-2 : tie.Need-returns-2
-returns-2 c = ?
+unfolding pairWritten
+returns-2 c = rw (le-ltb _ _ (c .if1 .left))
 
 pub put-pair-of-spec : {M : Type 1} → statement M
 put-pair-of-spec =

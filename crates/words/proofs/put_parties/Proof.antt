@@ -1,58 +1,53 @@
+-- `words::put_parties` meets its contract.
+use Prim.Native.Nat.{_-_}
+use Rattle.words.specs.Layout.{partyPlace}
+use Rattle.words.proofs.Writing.{Storing, stores, stores-long, stores-on, stores-end}
+use lib.ListN.{getD}
+use Rattle.rack.specs.Places.{idle}
+use Rattle.words.specs.Writing.{partyWords}
+use borrow.Author.Needs.{needs}
+use native.Mathlib.Omega.{arith}
 use Rattle.words.proofs.put_parties.Statement.{statement}
 use Rattle.words.proofs.put_parties.Tie as tie
-use Rattle.words.proofs.put_parties.Reads as reads
-use Rattle.words.proofs.put_parties.Lts as lts
-use Rattle.words.proofs.put_party.Reads as put-party-reads
 
 abbrev Inv-loop : tie.InvT-loop
-Inv-loop words₀ n parties i₀ words i = ?
+Inv-loop words₀ n parties i₀ words i = Storing partyPlace (λ j. partyWords (getD parties j idle)) n words₀ words i
 
 abbrev μ-loop : tie.MeasureT-loop
-μ-loop words₀ n parties i₀ words i = ?
+μ-loop words₀ n parties i₀ words i = n - i
 
--- src/lib.rt:674:5
 loop-holds : tie.Need-loop-holds Inv-loop μ-loop
-loop-holds c = ?
+loop-holds c = stores _ _ _ _
 
--- src/lib.rt:675:21
 mul-party : tie.Need-mul-party Inv-loop μ-loop
-mul-party c = ?
+mul-party c = search needs
 
--- src/lib.rt:675:21
 array-copy-out-party : tie.Need-array-copy-out-party Inv-loop μ-loop
-array-copy-out-party c = ?
+array-copy-out-party c = search needs
 
--- src/lib.rt:676:30
 mul-put-party : tie.Need-mul-put-party Inv-loop μ-loop
-mul-put-party c = ?
+mul-put-party c = search needs
 
--- src/lib.rt:676:26
 add-put-party : tie.Need-add-put-party Inv-loop μ-loop
-add-put-party c = ?
+add-put-party c = search needs
 
--- src/lib.rt:676:9
 put-party-requires : tie.Need-put-party-requires Inv-loop μ-loop
-put-party-requires c κs = ?
+put-party-requires c κs = omega (arith, stores-long _ _ _ _ _ _ (c .before .before .before .loop .inv), c .before .before .before .loop .inv .most)
 
--- src/lib.rt:677:9
 add-i : tie.Need-add-i Inv-loop μ-loop
-add-i c = ?
+add-i c = search needs
 
--- src/lib.rt:674:5
 loop-less : tie.Need-loop-less Inv-loop μ-loop
-loop-less c = ?
+loop-less c = search needs
 
--- src/lib.rt:674:5
 loop-again : tie.Need-loop-again Inv-loop μ-loop
-loop-again c = ?
+loop-again c = stores-on _ _ _ _ _ _ _ (c .before .before .before .before .before .before .loop .inv) (c .before .before .before .before .before .loop-test .taken) (c .before .before .put-party .ensures)
 
--- src/lib.rt:669:1
 same-length : tie.Need-same-length Inv-loop μ-loop
-same-length c = ?
+same-length c = stores-long _ _ _ _ _ _ (c .before .loop .inv)
 
--- src/lib.rt:669:1
 returns : tie.Need-returns Inv-loop μ-loop
-returns c = ?
+returns c = stores-end _ _ _ _ _ _ (c .before .loop .inv) (c .loop-test .left)
 
 pub put-parties-spec : {M : Type 1} → statement M
 put-parties-spec =

@@ -1,56 +1,41 @@
+-- `words::run` meets its contract.
+use Rattle.words.proofs.Calls.{run-unfit, run-none, run-sound, run-some}
 use borrow.Author.Needs.{needs}
 use Rattle.words.proofs.run.Statement.{statement}
 use Rattle.words.proofs.run.Tie as tie
-use Rattle.words.proofs.run.Reads as reads
-use Rattle.words.proofs.run.Lts as lts
-use Rattle.schedule.proofs.run.Reads as run-reads
-use Rattle.words.proofs.answered.Reads as answered-reads
-use Rattle.words.proofs.load.Reads as load-reads
-use Rattle.words.proofs.store.Reads as store-reads
 
--- src/lib.rt:794:9
 answered-requires : tie.Need-answered-requires
 answered-requires c κs = search needs
 
--- src/lib.rt:794:9
 returns : tie.Need-returns
-returns c = ?
+returns c = run-unfit _ _ _ _ (c .before .if1 .taken) (c .answered .ensures)
 
--- src/lib.rt:796:9
 load-requires : tie.Need-load-requires
 load-requires c κs = search needs
 
--- src/lib.rt:797:9
 run-requires : tie.Need-run-requires
 run-requires c κs = search needs
 
--- src/lib.rt:799:9
 answered-requires-2 : tie.Need-answered-requires-2
 answered-requires-2 c κs = search needs
 
--- src/lib.rt:799:9
 same-length : tie.Need-same-length
 same-length c = search needs
 
--- src/lib.rt:799:9
 returns-2 : tie.Need-returns-2
-returns-2 c = ?
+returns-2 c = run-none _ _ _ _ _ _ (c .before .before .before .before .before .before .if1 .left) (c .before .before .before .before .load .ensures) (c .before .before .before .run .ensures) (c .before .if2 .taken) (c .answered2 .ensures)
 
--- src/lib.rt:802:5
 store-requires : tie.Need-store-requires
-store-requires c κs = ?
+store-requires c κs = (search needs, run-sound _ _ _ _ (c .before .before .before .before .run .ensures) (c .before .before .if2 .left))
 
--- src/lib.rt:803:5
 answered-requires-3 : tie.Need-answered-requires-3
 answered-requires-3 c κs = search needs
 
--- src/lib.rt:790:1
 same-length-2 : tie.Need-same-length-2
 same-length-2 c = search needs
 
--- src/lib.rt:790:1
 returns-3 : tie.Need-returns-3
-returns-3 c = ?
+returns-3 c = run-some _ _ _ _ _ _ _ (c .before .before .before .before .before .before .before .before .before .before .before .if1 .left) (c .before .before .before .before .before .before .before .before .before .load .ensures) (c .before .before .before .before .before .before .before .before .run .ensures) (c .before .before .before .before .before .before .if2 .left) (c .before .before .before .store .ensures) (c .answered3 .ensures)
 
 pub run-spec : {M : Type 1} → statement M
 run-spec =

@@ -1,36 +1,30 @@
+-- `words::store` meets its contract.
+use Rattle.rack.specs.SoundLaws.{sound-of}
+use Rattle.words.specs.Writing.{writtenOf, recordPut, wirePut}
+use Rattle.words.proofs.Writing.{written}
 use borrow.Author.Needs.{needs}
+use native.Mathlib.Omega.{arith}
 use Rattle.words.proofs.store.Statement.{statement}
 use Rattle.words.proofs.store.Tie as tie
-use Rattle.words.proofs.store.Reads as reads
-use Rattle.words.proofs.store.Lts as lts
-use Rattle.words.proofs.put_head.Reads as put-head-reads
-use Rattle.words.proofs.put_lines.Reads as put-lines-reads
-use Rattle.words.proofs.put_members.Reads as put-members-reads
-use Rattle.words.proofs.put_wire.Reads as put-wire-reads
 
--- src/lib.rt:746:5
 put-head-requires : tie.Need-put-head-requires
-put-head-requires c κs = ?
+put-head-requires c κs = (c .before .before .pre .0, omega (arith, sound-of _ (c .before .before .pre .1) .entries))
 
--- src/lib.rt:747:5
 put-members-requires : tie.Need-put-members-requires
 put-members-requires c κs = search needs
 
--- src/lib.rt:749:5
 put-wire-requires : tie.Need-put-wire-requires
 put-wire-requires c κs = search needs
 
--- src/lib.rt:751:5
 put-lines-requires : tie.Need-put-lines-requires
-put-lines-requires c κs = ?
+put-lines-requires c κs = (search needs, omega (arith, sound-of _ (c .before .before .before .before .before .before .before .before .before .before .before .before .before .before .before .before .pre .1) .entries))
 
--- src/lib.rt:742:1
 same-length : tie.Need-same-length
 same-length c = search needs
 
--- src/lib.rt:742:1
 returns : tie.Need-returns
-returns c = ?
+unfolding writtenOf recordPut wirePut
+returns c = written (c .before .before .before .before .before .before .before .before .before .before .before .before .before .before .before .before .before .before .before .args .rack) _ _ _ _ _ (c .before .before .before .before .before .before .before .before .before .before .before .before .before .before .before .before .put-head .ensures) (c .before .before .before .before .before .before .before .before .before .before .before .before .put-members .ensures) (c .before .before .before .before .before .before .before .put-wire .ensures) (c .before .before .put-lines .ensures)
 
 pub store-spec : {M : Type 1} → statement M
 store-spec =

@@ -2,7 +2,7 @@
 use Prim.Native.Nat.{_-_}
 use Rattle.words.specs.Layout.{slotPlace}
 use Rattle.words.specs.Reading.{slotIn}
-use Rattle.words.proofs.Reading.{Filling, fills, fills-room, fills-on, fills-all}
+use Rattle.words.proofs.Reading.{Filling, fills, fills-on, fills-all}
 use borrow.Author.Needs.{needs}
 use native.Mathlib.Omega.{arith}
 use Rattle.words.proofs.wire_of.Statement.{statement}
@@ -30,7 +30,7 @@ mul-wire : tie.Need-mul-wire Inv-loop μ-loop
 mul-wire c = search needs
 
 array-set-from-wire : tie.Need-array-set-from-wire Inv-loop μ-loop
-array-set-from-wire c = fills-room _ _ _ _ _ (c .before .before .loop .inv) (c .before .loop-test .taken)
+array-set-from-wire c = search needs
 
 add-i : tie.Need-add-i Inv-loop μ-loop
 add-i c = search needs
