@@ -3,5 +3,5 @@ pub mod Layout
 pub mod Reading
 pub mod Writing
 pub mod Calls
--- Laws.
-pub mod Laws
+-- Laws. OnlyOne: no other outcome fits a call.
+pub mod OnlyOne

@@ -1,2 +1,0 @@
--- Laws.
-use Prim.Native.Nat.{ℕ}
