@@ -29,13 +29,23 @@ static uint8_t lent_bytes[MOST_ELEMENTS], byte_filling[MOST_ELEMENTS];
 static uint32_t lent_words[MOST_ELEMENTS], word_filling[MOST_ELEMENTS];
 static uint32_t words_before[MOST_ELEMENTS], events[MOST_EVENT_WORDS + 16];
 
-/* Eight bytes anywhere in memory. An emulator takes about as long for one byte as for eight. */
+/* Eight bytes anywhere in memory. An emulator takes about as long for one byte as for eight, and for each turn of a loop. */
 typedef uint64_t __attribute__((may_alias, aligned(1))) eight;
+
+static void copy_64(uint8_t *to, const uint8_t *from) {
+    const eight *f = (const eight *)from;
+    eight *t = (eight *)to;
+    eight a = f[0], b = f[1], c = f[2], d = f[3];
+    t[0] = a, t[1] = b, t[2] = c, t[3] = d;
+    a = f[4], b = f[5], c = f[6], d = f[7];
+    t[4] = a, t[5] = b, t[6] = c, t[7] = d;
+}
 
 /* The compiler and the library may call these. */
 void *memcpy(void *to, const void *from, size_t count) {
     uint8_t *t = to;
     const uint8_t *f = from;
+    for (; count >= 64; count -= 64, t += 64, f += 64) copy_64(t, f);
     for (; count >= 8; count -= 8, t += 8, f += 8) *(eight *)t = *(const eight *)f;
     while (count-- > 0) *t++ = *f++;
     return to;
@@ -130,6 +140,12 @@ static size_t source_size(const struct head *h) {
     return h->source * (of_words ? sizeof(uint32_t) : 1);
 }
 
+static int are_same_64(const void *one, const void *other) {
+    const eight *a = one, *b = other;
+    return ((a[0] ^ b[0]) | (a[1] ^ b[1]) | (a[2] ^ b[2]) | (a[3] ^ b[3]) | (a[4] ^ b[4]) | (a[5] ^ b[5]) | (a[6] ^ b[6]) |
+            (a[7] ^ b[7])) == 0;
+}
+
 /* Puts the answer of a call on a rack and all that it changed, and takes note of it. */
 static size_t put_changes(uint64_t answer, size_t count, size_t at) {
     uint32_t changes = 0;
@@ -137,10 +153,8 @@ static size_t put_changes(uint64_t answer, size_t count, size_t at) {
     size_t counted_at = at;
     at = put(at, &changes, sizeof changes);
     for (size_t place = 0; place < count; place++) {
-        if (place + 2 <= count && *(eight *)(lent_words + place) == *(eight *)(words_before + place)) {
-            place++;
-            continue;
-        }
+        while (place + 16 <= count && are_same_64(lent_words + place, words_before + place)) place += 16;
+        if (place == count) break;
         if (lent_words[place] == words_before[place]) continue;
         uint32_t change[2] = {(uint32_t)place - FENCE, lent_words[place]};
         at = put(at, change, sizeof change);
