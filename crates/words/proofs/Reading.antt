@@ -17,12 +17,8 @@ use Rattle.number.specs.ValueLaws.{signed-fits}
 use Rattle.rack.specs.Sound.{allBelow}
 use Rattle.rack.specs.Tests.{and-left, and-right}
 use Rattle.words.specs.Layout.{entryPlace, word, firsts}
+use Rattle.words.specs.Firsts.{firsts-long}
 use Rattle.words.specs.Reading.{partyKnown, messageKnown, lineKnown, countOf, countIn}
-
-firsts-long : {A : Type 0} (n : ℕ) (f : ℕ → A) → length (firsts n f) ≡ n
-unfolding firsts
-firsts-long zero f = refl
-firsts-long (suc n) f = length-append (firsts n f) (f n ∷ []) ∙ (let e = firsts-long n f in omega arith)
 
 -- the first i places of the list l are read, and the others are those of xs
 pub record Filling {A : Type 0} (f : ℕ → A) (n : ℕ) (xs l : List A) (i : ℕ) : Type 0 where

@@ -3,5 +3,7 @@ pub mod Layout
 pub mod Reading
 pub mod Writing
 pub mod Calls
--- Laws. OnlyOne: no other outcome fits a call.
+-- Laws. Firsts: lists that are made place by place. State: words that are no state give an unsound rack. OnlyOne: no other outcome fits a call.
+pub mod Firsts
+pub mod State
 pub mod OnlyOne
