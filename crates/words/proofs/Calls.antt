@@ -71,6 +71,7 @@ run-sound r n es q e d = ap (λ (k : Ran). soundOf (k .rack)) e ∙ go (soundOf 
     none true b = refl
     none false true = refl
     none false false = refl
+
     go : (t : Bool) → soundOf r ≡ t → soundOf (runOf r n es .rack) ≡ true
     go true s = run-stays r n es s
     go false s =

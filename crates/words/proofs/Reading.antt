@@ -48,8 +48,8 @@ fills-on {A} f n xs l i x g h e =
       most = omega arith;
       long = g .long;
       list =
-      ap (λ (r : List A). set r i x) p ∙ set-at (firsts i f) _ (drop (suc i) xs) x i (firsts-long i f) ∙ ap (λ (y : A). firsts i f ++ y ∷ drop (suc i) xs) e
-      ∙ sym (append-snoc (firsts i f) (f i) (drop (suc i) xs)) ∙ ap (λ (k : ℕ). firsts k f ++ drop k xs) (sym s);
+          ap (λ (r : List A). set r i x) p ∙ set-at (firsts i f) _ (drop (suc i) xs) x i (firsts-long i f) ∙ ap (λ (y : A). firsts i f ++ y ∷ drop (suc i) xs) e
+          ∙ sym (append-snoc (firsts i f) (f i) (drop (suc i) xs)) ∙ ap (λ (k : ℕ). firsts k f ++ drop k xs) (sym s);
     }
 
 -- after the last

@@ -51,8 +51,8 @@ puts-on d at xs e i g h =
     record {
       most = omega arith;
       list =
-      sets-then d e (set e (at + i) (getD xs i 0)) at (at + i) i (take i xs) (getD xs i 0 ∷ []) (g .list) refl l refl
-      ∙ ap (sets d at) (sym (take-suc xs i 0 h) ∙ ap (λ (k : ℕ). take k xs) (sym s));
+          sets-then d e (set e (at + i) (getD xs i 0)) at (at + i) i (take i xs) (getD xs i 0 ∷ []) (g .list) refl l refl
+          ∙ ap (sets d at) (sym (take-suc xs i 0 h) ∙ ap (λ (k : ℕ). take k xs) (sym s));
     }
 
 pub puts-end : (d : List ℕ) (at : ℕ) (xs e : List ℕ) (i : ℕ) → Putting d at xs e i → length xs ≤ i → e ≡ sets d at xs

@@ -79,7 +79,7 @@ messageKnown mark body op = eqb mark 1 && (ltb body 4 && ltb op 65536)
 
 -- no rack has client 255
 abbrev pub strayHeld : Held
-strayHeld = Full (record { client = record { 0 = 255 }; replica = record { 0 = 255 }; cell = record { 0 = 255 }; op = 0; body = Ask })
+strayHeld = Full (record { client = record { 0 = 255 }; replica = record { 0 = 0 }; cell = record { 0 = 0 }; op = 0; body = Ask })
 
 unfoldable pub fullIn : List ℕ → ℕ → Held
 fullIn ws at =

@@ -208,8 +208,8 @@ fn stray_held() -> Held
 {
     Held::Full(Message {
         client: Client(255),
-        replica: Replica(255),
-        cell: Cell(255),
+        replica: Replica(0),
+        cell: Cell(0),
         op: 0,
         body: Body::Ask,
     })
@@ -735,7 +735,12 @@ fn put_members(words: &mut [u32], rack: Rack)
     let parties = rack.parties;
     put_parties(words, parties, sizes.clients as usize);
     let pairs = rack.pairs;
-    put_pairs(words, pairs, 16 * (sizes.replicas as usize), sizes.cells as usize)
+    put_pairs(
+        words,
+        pairs,
+        16 * (sizes.replicas as usize),
+        sizes.cells as usize,
+    )
 }
 
 // The rack in its words.
