@@ -83,7 +83,7 @@ pub fn makers(rack: &mut RattleRack) -> Result<u64, String> {
         let made = rack.ask_once(Call::RackMade, &state, 0, &[3, 2, 1])?;
         let ran = rack.ask_once(Call::RackRun, &state, 1, &[0, 0, 0, 0])?;
         if [&made, &ran] != [&unfit, &unfit] {
-            return Err(format!("{length} words aren't refused 20: {made:?}, {ran:?}"));
+            return Err(format!("{length} words aren't refused 20: {made:?}, {ran:?}\n"));
         }
         tried += 2;
     }
@@ -99,13 +99,18 @@ fn one_maker(rack: &mut RattleRack, sizes: Sizes) -> Result<(), String> {
     let left = rack.ask_once(Call::RackMade, &before, 0, &[sizes.replicas, sizes.clients, sizes.cells])?;
     let expected = Left { ran: Ran { done: 0, refusal }, changed: changes(&before, &words) };
     if left != expected {
-        return Err(format!("the maker of {sizes:?}: {:?}, not {:?}", left.ran, expected.ran));
+        return Err(format!("the maker of {sizes:?}: {:?}, not {:?}\n", left.ran, expected.ran));
     }
     Ok(())
 }
 
 /// Any words in place of some of a state, so that it may be no state at all, or have what isn't looked at other than 0.
-pub fn damaged(rack: &mut RattleRack, random: &mut Random, states: u64, make: fn(&mut Random) -> Rack) -> Result<u64, String> {
+pub fn damaged(
+    rack: &mut RattleRack,
+    random: &mut Random,
+    states: u64,
+    make: fn(&mut Random) -> Rack,
+) -> Result<u64, String> {
     for _ in 0..states {
         let mut before = encode(&make(random));
         for _ in 0..random.below(4) {
@@ -118,7 +123,9 @@ pub fn damaged(rack: &mut RattleRack, random: &mut Random, states: u64, make: fn
         let expected = Left { ran, changed: changes(&before, &after) };
         let left = rack.ask_once(Call::RackRun, &before, events.len() / 4, &events)?;
         if left != expected {
-            return Err(format!("a damaged state with {events:?}:\n  the paper: {expected:?}\n  the other: {left:?}"));
+            return Err(format!(
+                "a damaged state with {events:?}:\n  the paper: {expected:?}\n  the other: {left:?}\n"
+            ));
         }
     }
     Ok(states)

@@ -2,61 +2,66 @@
 
 use crate::engine::{self, RattleRack};
 use compare::rack::drill::drill;
-use compare::rack::lockstep::{compare, Followed, Follower};
+use compare::rack::lockstep::{compare, Followed, Follower, Tally};
 use compare::rack::quick::QuickRack;
 use compare::rack::starts;
 use compare::rack::timing::{of_a_run, of_steps, schedules};
 use compare::random::Random;
 use std::io::{self, Read, Write};
+use std::thread;
 use std::time::Instant;
 
 /// What the comparison of the two independent racks tries at least.
 const EVENTS: u64 = 1_000_000;
-/// Damaged states, for each kind of beginning.
-const DAMAGED: u64 = 10_000;
+/// Damaged states of each host, for each kind of beginning.
+const DAMAGED: u64 = 4_000;
+/// So many hosts work beside each other.
+const HOSTS: u64 = 2;
 
 /// Compares the two independent racks, event by event.
 pub fn compare_racks(seed: u64) -> bool {
-    let quick: Box<dyn Follower> = Box::new(Followed::<QuickRack>::default());
-    hold(&mut [("the quick rack", quick)], seed, EVENTS)
-}
-
-/// Compares the clear rack with the quick one and with the Rattle engine.
-pub fn compare_engine(seed: u64, events: u64) -> bool {
-    let rattle = match RattleRack::start() {
-        Ok(rattle) => rattle,
-        Err(error) => {
-            println!("racks: FAILED: {error}");
-            return false;
-        }
-    };
-    let (rattle, all_well) = words_of_racks(rattle, seed);
-    let quick: Box<dyn Follower> = Box::new(Followed::<QuickRack>::default());
-    all_well && hold(&mut [("the quick rack", quick), ("the Rattle engine", Box::new(rattle))], seed, events)
-}
-
-/// The maker, and states that are damaged.
-fn words_of_racks(mut rattle: RattleRack, seed: u64) -> (RattleRack, bool) {
-    let random = &mut Random::from_seed(seed);
-    let tried = engine::makers(&mut rattle).and_then(|makers| {
-        let of_fresh = engine::damaged(&mut rattle, random, DAMAGED, starts::fresh)?;
-        let of_sound = engine::damaged(&mut rattle, random, DAMAGED, starts::sound)?;
-        Ok((makers, of_fresh + of_sound))
-    });
-    match &tried {
-        Ok((makers, damaged)) => println!("racks: {makers} makers and {damaged} damaged states agree"),
-        Err(trouble) => println!("racks: {trouble}\nracks: the Rattle engine DOES NOT AGREE"),
-    }
-    (rattle, tried.is_ok())
-}
-
-fn hold(followers: &mut [(&str, Box<dyn Follower>)], seed: u64, events: u64) -> bool {
-    let begun = Instant::now();
     println!("racks: seed {seed}");
-    let tally = compare(followers, &mut Random::from_seed(seed), events);
+    let begun = Instant::now();
+    say(begun, hold(&mut [quick()], seed, EVENTS))
+}
+
+/// Compares the clear rack with the quick one and with the Rattle engine: the maker, damaged states, then at least so many
+/// events, a part of them from each of some seeds beside each other.
+pub fn compare_engine(seed: u64, events: u64) -> bool {
+    println!("racks: seeds {seed} to {}", seed + HOSTS - 1);
+    let begun = Instant::now();
+    let tallies = thread::scope(|scope| {
+        let parts: Vec<_> =
+            (0..HOSTS).map(|part| scope.spawn(move || engine_part(seed + part, events.div_ceil(HOSTS)))).collect();
+        parts.into_iter().map(|part| part.join().expect("a part's thread ends")).collect::<Vec<_>>()
+    });
+    let sum = |sum: Tally, tally: Result<Tally, String>| Ok(sum.and(&tally?));
+    say(begun, tallies.into_iter().try_fold(Tally::default(), sum))
+}
+
+/// What one host is asked.
+fn engine_part(seed: u64, events: u64) -> Result<Tally, String> {
+    let mut rattle = RattleRack::start().map_err(|error| format!("FAILED: {error}\n"))?;
+    let random = &mut Random::from_seed(seed);
+    let makers = engine::makers(&mut rattle)?;
+    engine::damaged(&mut rattle, random, DAMAGED, starts::fresh)?;
+    engine::damaged(&mut rattle, random, DAMAGED, starts::sound)?;
+    println!("racks: {makers} makers and {} damaged states agree", 2 * DAMAGED);
+    hold(&mut [quick(), ("the Rattle engine", Box::new(rattle))], seed, events)
+}
+
+fn quick() -> (&'static str, Box<dyn Follower>) {
+    ("the quick rack", Box::new(Followed::<QuickRack>::default()))
+}
+
+fn hold(followers: &mut [(&str, Box<dyn Follower>)], seed: u64, events: u64) -> Result<Tally, String> {
+    compare(followers, &mut Random::from_seed(seed), events)
+}
+
+fn say(begun: Instant, tally: Result<Tally, String>) -> bool {
     match &tally {
         Ok(tally) => println!("racks: {tally}, {:.1} s", begun.elapsed().as_secs_f64()),
-        Err(trouble) => println!("racks: {trouble}racks: DISAGREEMENT"),
+        Err(trouble) => println!("racks: {trouble}racks: the racks DO NOT AGREE"),
     }
     tally.is_ok()
 }

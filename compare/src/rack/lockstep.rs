@@ -93,6 +93,16 @@ pub struct Tally {
 }
 
 impl Tally {
+    /// The two together.
+    pub fn and(&self, other: &Tally) -> Tally {
+        Tally {
+            schedules: self.schedules + other.schedules,
+            events: self.events + other.events,
+            done: std::array::from_fn(|kind| self.done[kind] + other.done[kind]),
+            refused: std::array::from_fn(|refusal| self.refused[refusal] + other.refused[refusal]),
+        }
+    }
+
     fn count(&mut self, event: [u32; EVENT_WORDS], ran: Ran) {
         self.events += 1;
         match ran.refusal {
@@ -141,7 +151,13 @@ fn beginning<'edits>(random: &mut Random, next_edit: &mut impl Iterator<Item = &
 
 type Followers<'names, 'list> = &'list mut [(&'names str, Box<dyn Follower>)];
 
-fn one_schedule(followers: Followers, random: &mut Random, start: &Rack, length: usize, tally: &mut Tally) -> Result<(), String> {
+fn one_schedule(
+    followers: Followers,
+    random: &mut Random,
+    start: &Rack,
+    length: usize,
+    tally: &mut Tally,
+) -> Result<(), String> {
     let mut driver = Driver::any(random);
     let (mut clear, mut words) = (start.clone(), encode(start));
     let (mut tried, mut done, mut left) = (Vec::new(), Vec::new(), Vec::new());
@@ -191,10 +207,12 @@ fn held_to(name: &str, start: &Rack, events: &[u32], clear: &[Left], other: &[Le
     let step = clear.iter().zip(other).take_while(|(clear, other)| clear == other).count();
     let shown = &events[EVENT_WORDS * step..];
     let event = Event::schedule(&shown[..shown.len().min(EVENT_WORDS)]);
-    let mut lines = format!("{name} DOES NOT AGREE at event {step} of a schedule, {event:?}, sizes {:?}\n", start.sizes);
+    let mut lines =
+        format!("{name} DOES NOT AGREE at event {step} of a schedule, {event:?}, sizes {:?}\n", start.sizes);
     for (who, left) in [("the paper", clear.get(step)), ("the other", other.get(step))] {
         let Some(Left { ran, changed }) = left else { continue };
-        lines += &format!("  {who}: {ran:?}, {} words changed: {:?}\n", changed.len(), &changed[..changed.len().min(24)]);
+        lines +=
+            &format!("  {who}: {ran:?}, {} words changed: {:?}\n", changed.len(), &changed[..changed.len().min(24)]);
     }
     Err(lines)
 }

@@ -97,7 +97,9 @@ pub fn decode(words: &[u32]) -> Option<Rack> {
         wire: Wire([None; SLOTS]),
         record: Vec::with_capacity(entries as usize),
     };
-    for (client, words) in rack.clients.iter_mut().zip(words[CLIENTS_AT..].chunks_exact(CLIENT_WORDS)).take(clients as usize) {
+    for (client, words) in
+        rack.clients.iter_mut().zip(words[CLIENTS_AT..].chunks_exact(CLIENT_WORDS)).take(clients as usize)
+    {
         *client = client_from(words)?;
     }
     for (slot, words) in rack.wire.0.iter_mut().zip(words[SLOTS_AT..].chunks_exact(SLOT_WORDS)) {
@@ -177,7 +179,8 @@ pub fn run_words(state: &mut [u32], allowance: usize, events: &[u32]) -> Ran {
 /// Writes what is part of the rack.
 fn write(rack: &Rack, state: &mut [u32]) {
     let words = encode(rack);
-    let (replicas, clients, cells) = (rack.sizes.replicas as usize, rack.sizes.clients as usize, rack.sizes.cells as usize);
+    let (replicas, clients, cells) =
+        (rack.sizes.replicas as usize, rack.sizes.clients as usize, rack.sizes.cells as usize);
     let mut copy = |from: usize, count: usize| state[from..from + count].copy_from_slice(&words[from..from + count]);
     copy(0, CLIENTS_AT + clients * CLIENT_WORDS);
     for replica in 0..replicas {

@@ -21,6 +21,7 @@ use Rattle.rack.specs.declared.Party.{Party}
 use Rattle.rack.specs.declared.Rack.{Rack}
 use Rattle.rack.specs.declared.Work.{Work}
 use Rattle.rack.specs.declared.Work.the-variants.{Asking, Keeping}
+use Rattle.words.specs.Places.{first-long}
 use Rattle.words.specs.Writing.{pairWords, openWords, toldWords, workWords, flag, partyWords, bodyKind, bodyWords, slotWords, putFirsts, headOf, partiesPut, pairsPut, wirePut, recordPut, writtenOf}
 
 -- some and then some more
@@ -62,11 +63,6 @@ puts-end d at xs e i g h = g .list ∙ ap (sets d at) (take-all i xs h)
 pub record Storing (place : ℕ → ℕ) (f : ℕ → List ℕ) (n : ℕ) (d e : List ℕ) (i : ℕ) : Type 0 where
   pub most : i ≤ n
   pub list : e ≡ putFirsts i place f d
-
-first-long : (n : ℕ) (place : ℕ → ℕ) (f : ℕ → List ℕ) (d : List ℕ) → length (putFirsts n place f d) ≡ length d
-unfolding putFirsts
-first-long zero place f d = refl
-first-long (suc n) place f d = length-sets (putFirsts n place f d) (place n) (f n) ∙ first-long n place f d
 
 pub stores : (place : ℕ → ℕ) (f : ℕ → List ℕ) (n : ℕ) (d : List ℕ) → Storing place f n d d 0
 unfolding putFirsts

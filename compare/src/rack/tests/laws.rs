@@ -117,7 +117,8 @@ fn a_sound_rack_stays_sound_and_holds_something_exactly_after_a_tell() {
 #[test]
 fn the_quick_rack_says_what_the_clear_rack_says() {
     let quick: Box<dyn Follower> = Box::new(Followed::<QuickRack>::default());
-    let tally = compare(&mut [("the quick rack", quick)], &mut Random::from_seed(44), 30_000).unwrap_or_else(|trouble| panic!("{trouble}"));
+    let tally = compare(&mut [("the quick rack", quick)], &mut Random::from_seed(44), 30_000)
+        .unwrap_or_else(|trouble| panic!("{trouble}"));
     assert!(tally.done.iter().take(9).all(|times| *times > 0), "{tally:?}");
     assert!(tally.refused[2..].iter().all(|times| *times > 0), "{tally:?}");
     assert!(tally.done.iter().sum::<u64>() > tally.events / 2, "{tally:?}");
