@@ -7,6 +7,7 @@ use native.Mathlib.Omega.{arith}
 use lib.Dec.{ltb, eqb}
 use lib.ListN.{length, getD, length-append}
 use borrow.Author.Tests.{lt-ltb}
+use Rattle.number.specs.Value.{alternatingOf}
 use Rattle.number.specs.ValueLaws.{signed-alternating}
 use Rattle.record.specs.declared.Cell.{Cell}
 use Rattle.record.specs.declared.Entry.{Entry}
@@ -18,9 +19,15 @@ use Rattle.rack.specs.declared.Body.the-variants.{Ask, Tell, Keep, Kept}
 use Rattle.rack.specs.declared.Message.{Message}
 use Rattle.rack.specs.declared.Held.{Held}
 use Rattle.rack.specs.declared.Held.the-variants.{Empty, Full}
+use Rattle.rack.specs.declared.Goal.{Goal}
+use Rattle.rack.specs.declared.Goal.the-variants.{Read, Write}
+use Rattle.rack.specs.declared.Work.{Work}
+use Rattle.rack.specs.declared.Work.the-variants.{Idle, Asking, Keeping}
+use Rattle.rack.specs.declared.Party.{Party}
+use Rattle.rack.specs.Stamp.{freshPair}
 use Rattle.words.specs.Layout.{word}
-use Rattle.words.specs.Reading.{byteOf, pairIn, bodyOf, messageKnown, fullIn, heldOf, lineIn}
-use Rattle.words.specs.Writing.{pairWords, noPair, bodyKind, bodyWords, slotWords}
+use Rattle.words.specs.Reading.{byteOf, setOf, pairIn, goalOf, workOf, workIn, partyKnown, partyIn, bodyOf, messageKnown, fullIn, heldOf, lineIn}
+use Rattle.words.specs.Writing.{pairWords, noPair, openWords, toldWords, workWords, flag, partyWords, bodyKind, bodyWords, slotWords}
 use Rattle.words.specs.Places.{Stands}
 
 -- a word of a part
@@ -51,7 +58,7 @@ pair-again ws at p h s =
 -- ---- entries
 
 -- an entry names a client and a cell that a byte holds
-pub entryFits : Entry → Type 0
+abbrev pub entryFits : Entry → Type 0
 entryFits (ReadAsked client cell) = (client .0 < 256) × (cell .0 < 256)
 entryFits (WriteAsked client cell v) = (client .0 < 256) × (cell .0 < 256)
 entryFits (Told client v) = client .0 < 256
@@ -65,7 +72,7 @@ row-long (Told client v) = refl
 row-long (Done client) = refl
 
 entry-again : (e : Entry) → entryFits e → entryOf (getD (rowOf e) 0 0) (byteOf (getD (rowOf e) 1 0)) (byteOf (getD (rowOf e) 2 0)) (getD (rowOf e) 3 0) ≡ e
-unfolding rowOf entryOf entryFits
+unfolding rowOf entryOf
 entry-again (ReadAsked client cell) h = rw (byte-same (client .0) (h .0), byte-same (cell .0) (h .1))
 entry-again (WriteAsked client cell v) h = rw (byte-same (client .0) (h .0), byte-same (cell .0) (h .1), signed-alternating v)
 entry-again (Told client v) h = rw (byte-same (client .0) h, signed-alternating v)
@@ -79,3 +86,132 @@ line-again ws at e h s =
     let c = at-of ws at 4 2 (rowOf e) s (row-long e) (omega arith) in
     let d = at-of ws at 4 3 (rowOf e) s (row-long e) (omega arith) in
     rw (a, b, c, d, entry-again e h)
+
+-- ---- slots
+
+-- a message names what bytes hold, and its operation number is at most 65,535
+abbrev pub bodySmall : Body → Type 0
+bodySmall Ask = Unit {0}
+bodySmall (Tell p) = p .stamp .rank < 256
+bodySmall (Keep p) = p .stamp .rank < 256
+bodySmall Kept = Unit {0}
+
+pub record MessageSmall (m : Message) : Type 0 where
+  pub client : m .client .0 < 256
+  pub replica : m .replica .0 < 256
+  pub cell : m .cell .0 < 256
+  pub op : m .op < 65536
+  pub body : bodySmall (m .body)
+
+abbrev pub heldSmall : Held → Type 0
+heldSmall Empty = Unit {0}
+heldSmall (Full m) = MessageSmall m
+
+kind-below : (b : Body) → bodyKind b < 4
+unfolding bodyKind
+kind-below Ask = omega arith
+kind-below (Tell p) = omega arith
+kind-below (Keep p) = omega arith
+kind-below Kept = omega arith
+
+body-again : (ws : List ℕ) (at : ℕ) (b : Body) → bodySmall b → Stands ws at (bodyWords b) → bodyOf (bodyKind b) (pairIn ws at) ≡ b
+unfolding bodyOf bodyKind bodyWords
+body-again ws at Ask h s = refl
+body-again ws at (Tell p) h s = ap Tell (pair-again ws at p h s)
+body-again ws at (Keep p) h s = ap Keep (pair-again ws at p h s)
+body-again ws at Kept h s = refl
+
+full-again : (ws : List ℕ) (at : ℕ) (m : Message) → MessageSmall m → Stands ws at (slotWords (Full m)) → heldOf ws at ≡ Full m
+unfolding slotWords heldOf fullIn messageKnown
+full-again ws at m h s =
+    let z : at ≡ at + 0 = omega arith in
+    let mark : word ws at ≡ 1 = ap (word ws) z ∙ s 0 (omega arith) in
+    let kind : word ws (at + 1) ≡ bodyKind (m .body) = s 1 (omega arith) in
+    let client : word ws (at + 2) ≡ m .client .0 = s 2 (omega arith) in
+    let replica : word ws (at + 3) ≡ m .replica .0 = s 3 (omega arith) in
+    let cell : word ws (at + 4) ≡ m .cell .0 = s 4 (omega arith) in
+    let op : word ws (at + 5) ≡ m .op = s 5 (omega arith) in
+    let rest : Stands ws (at + 6) (bodyWords (m .body)) = λ o l. (let e : at + 6 + o ≡ at + suc (suc (suc (suc (suc (suc o))))) = omega arith in ap (word ws) e ∙ s (suc (suc (suc (suc (suc (suc o)))))) (omega arith)) in
+    rw (mark, kind, client, replica, cell, op, lt-ltb (bodyKind (m .body)) 4 (kind-below (m .body)), lt-ltb (m .op) 65536 (h .op), byte-same (m .client .0) (h .client), byte-same (m .replica .0) (h .replica), byte-same (m .cell .0) (h .cell), body-again ws (at + 6) (m .body) (h .body) rest)
+
+pub slot-again : (ws : List ℕ) (at : ℕ) (x : Held) → heldSmall x → Stands ws at (slotWords x) → heldOf ws at ≡ x
+unfolding slotWords heldOf
+slot-again ws at Empty h s =
+    let z : at ≡ at + 0 = omega arith in
+    let mark : word ws at ≡ 0 = ap (word ws) z ∙ s 0 (omega arith) in
+    rw mark
+slot-again ws at (Full m) h s = full-again ws at m h s
+
+-- ---- clients
+
+abbrev pub workSmall : Work → Type 0
+workSmall Idle = Unit {0}
+workSmall (Asking cell goal set held) = (cell .0 < 256) × ((set < 65536) × (held .stamp .rank < 256))
+workSmall (Keeping cell goal set held) = (cell .0 < 256) × ((set < 65536) × (held .stamp .rank < 256))
+
+-- nothing is held while the set of the ask phase is empty
+abbrev pub plain : Work → Work
+plain Idle = Idle
+plain (Asking cell goal set held) = Asking cell goal set (cond (eqb set 0) freshPair held)
+plain (Keeping cell goal set held) = Keeping cell goal set held
+
+nothing-again : (ws : List ℕ) (at : ℕ) → Stands ws at noPair → pairIn ws at ≡ freshPair
+unfolding pairWords alternatingOf
+nothing-again ws at s = pair-again ws at freshPair (omega arith) s
+
+told-again : (ws : List ℕ) (at set : ℕ) (held : Pair) → held .stamp .rank < 256 → Stands ws at (toldWords set held) → pairIn ws at ≡ cond (eqb set 0) freshPair held
+unfolding toldWords
+told-again ws at set held h s = go (eqb set 0) s
+  where
+    go : (t : Bool) → Stands ws at (cond t noPair (pairWords held)) → pairIn ws at ≡ cond t freshPair held
+    go true n = nothing-again ws at n
+    go false n = pair-again ws at held h n
+
+record Open (ws : List ℕ) (at phase : ℕ) (cell : Cell) (goal : Goal) (set : ℕ) (rest : List ℕ) : Type 0 where
+  phases : word ws at ≡ phase
+  cells : word ws (at + 1) ≡ cell .0
+  goals : goalOf (word ws (at + 2)) (word ws (at + 3)) ≡ goal
+  sets : word ws (at + 4) ≡ set
+  holds : Stands ws (at + 5) rest
+
+open-again : (ws : List ℕ) (at phase : ℕ) (cell : Cell) (goal : Goal) (set : ℕ) (rest : List ℕ) → Stands ws at (openWords phase cell goal set ++ rest)
+    → Open ws at phase cell goal set rest
+unfolding openWords goalOf
+open-again ws at phase cell Read set rest s =
+    let z : at ≡ at + 0 = omega arith in
+    let g : word ws (at + 2) ≡ 0 = s 2 (omega arith) in
+    record {
+      phases = ap (word ws) z ∙ s 0 (omega arith);
+      cells = s 1 (omega arith);
+      goals = rw g;
+      sets = s 4 (omega arith);
+      holds = λ o l. (let e : at + 5 + o ≡ at + suc (suc (suc (suc (suc o)))) = omega arith in ap (word ws) e ∙ s (suc (suc (suc (suc (suc o))))) (omega arith));
+    }
+open-again ws at phase cell (Write v) set rest s =
+    let z : at ≡ at + 0 = omega arith in
+    let g : word ws (at + 2) ≡ 1 = s 2 (omega arith) in
+    let w : word ws (at + 3) ≡ alternatingOf v = s 3 (omega arith) in
+    record {
+      phases = ap (word ws) z ∙ s 0 (omega arith);
+      cells = s 1 (omega arith);
+      goals = rw (g, w, signed-alternating v);
+      sets = s 4 (omega arith);
+      holds = λ o l. (let e : at + 5 + o ≡ at + suc (suc (suc (suc (suc o)))) = omega arith in ap (word ws) e ∙ s (suc (suc (suc (suc (suc o))))) (omega arith));
+    }
+
+set-same : (n : ℕ) → n < 65536 → setOf n ≡ n
+unfolding setOf
+set-same n h = rw (lt-ltb n 65536 h)
+
+work-again : (ws : List ℕ) (at : ℕ) (w : Work) → workSmall w → Stands ws at (workWords w) → workIn ws at ≡ plain w
+unfolding workWords workIn workOf
+work-again ws at Idle h s =
+    let z : at ≡ at + 0 = omega arith in
+    let phase : word ws at ≡ 0 = ap (word ws) z ∙ s 0 (omega arith) in
+    rw phase
+work-again ws at (Asking cell goal set held) h s =
+    let q = open-again ws at 1 cell goal set (toldWords set held) s in
+    rw (q .goals, q .phases, q .cells, q .sets, byte-same (cell .0) (h .0), set-same set (h .1 .0), told-again ws (at + 5) set held (h .1 .1) (q .holds))
+work-again ws at (Keeping cell goal set held) h s =
+    let q = open-again ws at 2 cell goal set (pairWords held) s in
+    rw (q .goals, q .phases, q .cells, q .sets, byte-same (cell .0) (h .0), set-same set (h .1 .0), pair-again ws (at + 5) held (h .1 .1) (q .holds))
