@@ -1,7 +1,7 @@
 -- What was written is read again: where the words of a part stand, that part is read.
 use Prim.Native.Nat.{ℕ, suc, _+_, _*_, _%_, _≤_, _<_}
 use mathlib.Core.Path.{_≡_, refl, ap, sym, _∙_}
-use mathlib.Core.Bool.{Bool, true, false, cond, _||_}
+use mathlib.Core.Bool.{Bool, true, false, cond, _&&_, _||_}
 use mathlib.Core.List.{List, [], _∷_, _++_}
 use native.Mathlib.Omega.{arith}
 use lib.Dec.{ltb, eqb}
@@ -26,7 +26,7 @@ use Rattle.rack.specs.declared.Work.the-variants.{Idle, Asking, Keeping}
 use Rattle.rack.specs.declared.Party.{Party}
 use Rattle.rack.specs.Stamp.{freshPair}
 use Rattle.words.specs.Layout.{word}
-use Rattle.words.specs.Reading.{byteOf, setOf, pairIn, goalOf, workOf, workIn, partyKnown, partyIn, bodyOf, messageKnown, fullIn, heldOf, lineIn}
+use Rattle.words.specs.Reading.{byteOf, setOf, pairIn, goalOf, workOf, workIn, partyKnown, partyIn, bodyOf, messageKnown, fullIn, heldOf, entryKnown, lineKnown, lineIn}
 use Rattle.words.specs.Writing.{pairWords, noPair, openWords, toldWords, workWords, flag, partyWords, bodyKind, bodyWords, slotWords}
 use Rattle.words.specs.Places.{Stands}
 
@@ -43,7 +43,7 @@ byte-same n h = rw (lt-ltb n 256 h)
 
 -- ---- pairs
 
-pair-long : (p : Pair) → length (pairWords p) ≡ 3
+pub pair-long : (p : Pair) → length (pairWords p) ≡ 3
 unfolding pairWords
 pair-long p = refl
 
@@ -57,14 +57,14 @@ pair-again ws at p h s =
 
 -- ---- entries
 
--- an entry names a client and a cell that a byte holds
+-- an entry names a client and a cell that a record can have
 abbrev pub entryFits : Entry → Type 0
-entryFits (ReadAsked client cell) = (client .0 < 256) × (cell .0 < 256)
-entryFits (WriteAsked client cell v) = (client .0 < 256) × (cell .0 < 256)
-entryFits (Told client v) = client .0 < 256
-entryFits (Done client) = client .0 < 256
+entryFits (ReadAsked client cell) = (client .0 < 8) × (cell .0 < 16)
+entryFits (WriteAsked client cell v) = (client .0 < 8) × (cell .0 < 16)
+entryFits (Told client v) = client .0 < 8
+entryFits (Done client) = client .0 < 8
 
-row-long : (e : Entry) → length (rowOf e) ≡ 4
+pub row-long : (e : Entry) → length (rowOf e) ≡ 4
 unfolding rowOf
 row-long (ReadAsked client cell) = refl
 row-long (WriteAsked client cell v) = refl
@@ -73,10 +73,25 @@ row-long (Done client) = refl
 
 entry-again : (e : Entry) → entryFits e → entryOf (getD (rowOf e) 0 0) (byteOf (getD (rowOf e) 1 0)) (byteOf (getD (rowOf e) 2 0)) (getD (rowOf e) 3 0) ≡ e
 unfolding rowOf entryOf
-entry-again (ReadAsked client cell) h = rw (byte-same (client .0) (h .0), byte-same (cell .0) (h .1))
-entry-again (WriteAsked client cell v) h = rw (byte-same (client .0) (h .0), byte-same (cell .0) (h .1), signed-alternating v)
-entry-again (Told client v) h = rw (byte-same (client .0) h, signed-alternating v)
-entry-again (Done client) h = rw (byte-same (client .0) h)
+entry-again (ReadAsked client cell) h = rw (byte-same (client .0) (omega (arith, h .0)), byte-same (cell .0) (omega (arith, h .1)))
+entry-again (WriteAsked client cell v) h = rw (byte-same (client .0) (omega (arith, h .0)), byte-same (cell .0) (omega (arith, h .1)), signed-alternating v)
+entry-again (Told client v) h = rw (byte-same (client .0) (omega arith), signed-alternating v)
+entry-again (Done client) h = rw (byte-same (client .0) (omega arith))
+
+entry-known : (e : Entry) → entryFits e → entryKnown (getD (rowOf e) 0 0) (getD (rowOf e) 1 0) (getD (rowOf e) 2 0) ≡ true
+unfolding rowOf entryKnown
+entry-known (ReadAsked client cell) h = rw (lt-ltb (client .0) 8 (h .0), lt-ltb (cell .0) 16 (h .1))
+entry-known (WriteAsked client cell v) h = rw (lt-ltb (client .0) 8 (h .0), lt-ltb (cell .0) 16 (h .1))
+entry-known (Told client v) h = rw (lt-ltb (client .0) 8 h)
+entry-known (Done client) h = rw (lt-ltb (client .0) 8 h)
+
+pub line-known : (ws : List ℕ) (at : ℕ) (e : Entry) → entryFits e → Stands ws at (rowOf e) → lineKnown ws at ≡ true
+unfolding lineKnown
+line-known ws at e h s =
+    let a = at-first ws at 4 (rowOf e) s (row-long e) (omega arith) in
+    let b = at-of ws at 4 1 (rowOf e) s (row-long e) (omega arith) in
+    let c = at-of ws at 4 2 (rowOf e) s (row-long e) (omega arith) in
+    rw (a, b, c) (entry-known e h)
 
 pub line-again : (ws : List ℕ) (at : ℕ) (e : Entry) → entryFits e → Stands ws at (rowOf e) → lineIn ws at ≡ record { entry = e }
 unfolding lineIn
@@ -106,6 +121,18 @@ pub record MessageSmall (m : Message) : Type 0 where
 abbrev pub heldSmall : Held → Type 0
 heldSmall Empty = Unit {0}
 heldSmall (Full m) = MessageSmall m
+
+body-long : (b : Body) → length (bodyWords b) ≡ 3
+unfolding bodyWords pairWords
+body-long Ask = refl
+body-long (Tell p) = refl
+body-long (Keep p) = refl
+body-long Kept = refl
+
+pub slot-long : (x : Held) → length (slotWords x) ≡ 9
+unfolding slotWords
+slot-long Empty = refl
+slot-long (Full m) = rw (body-long (m .body))
 
 kind-below : (b : Body) → bodyKind b < 4
 unfolding bodyKind
@@ -215,3 +242,59 @@ work-again ws at (Asking cell goal set held) h s =
 work-again ws at (Keeping cell goal set held) h s =
     let q = open-again ws at 2 cell goal set (pairWords held) s in
     rw (q .goals, q .phases, q .cells, q .sets, byte-same (cell .0) (h .0), set-same set (h .1 .0), pair-again ws (at + 5) held (h .1 .1) (q .holds))
+
+open-long : (phase : ℕ) (cell : Cell) (goal : Goal) (set : ℕ) → length (openWords phase cell goal set) ≡ 5
+unfolding openWords
+open-long phase cell Read set = refl
+open-long phase cell (Write v) set = refl
+
+told-long : (set : ℕ) (held : Pair) → length (toldWords set held) ≡ 3
+unfolding toldWords pairWords
+told-long set held = go (eqb set 0)
+  where
+    go : (t : Bool) → length (cond t noPair (pairWords held)) ≡ 3
+    go true = refl
+    go false = refl
+
+work-long : (w : Work) → length (workWords w) ≡ 8
+unfolding workWords
+work-long Idle = refl
+work-long (Asking cell goal set held) =
+    length-append (openWords 1 cell goal set) (toldWords set held) ∙ omega (arith, open-long 1 cell goal set, told-long set held)
+work-long (Keeping cell goal set held) =
+    length-append (openWords 2 cell goal set) (pairWords held) ∙ omega (arith, open-long 2 cell goal set, pair-long held)
+
+pub party-long : (p : Party) → length (partyWords p) ≡ 10
+unfolding partyWords
+party-long p = rw (work-long (p .work))
+
+work-known : (w : Work) → (ltb (getD (workWords w) 0 0) 3 && (eqb (getD (workWords w) 0 0) 0 || ltb (getD (workWords w) 2 0) 2)) ≡ true
+unfolding workWords openWords
+work-known Idle = refl
+work-known (Asking cell Read set held) = refl
+work-known (Asking cell (Write v) set held) = refl
+work-known (Keeping cell Read set held) = refl
+work-known (Keeping cell (Write v) set held) = refl
+
+flag-below : (b : Bool) → flag b < 2
+unfolding flag
+flag-below true = omega arith
+flag-below false = omega arith
+
+flag-again : (b : Bool) → eqb (flag b) 1 ≡ b
+unfolding flag
+flag-again true = refl
+flag-again false = refl
+
+pub party-again : (ws : List ℕ) (at : ℕ) (p : Party) → p .op < 65536 → workSmall (p .work) → Stands ws at (partyWords p)
+    → partyIn ws at ≡ record { stopped = p .stopped; op = p .op; work = plain (p .work) }
+unfolding partyIn partyWords partyKnown
+party-again ws at p h w s =
+    let l = work-long (p .work) in
+    let z : at ≡ at + 0 = omega arith in
+    let stopped : word ws at ≡ flag (p .stopped) = ap (word ws) z ∙ s 0 (omega (arith, l)) in
+    let op : word ws (at + 1) ≡ p .op = s 1 (omega (arith, l)) in
+    let phase : word ws (at + 2) ≡ getD (workWords (p .work)) 0 0 = s 2 (omega (arith, l)) in
+    let goal : word ws (at + 4) ≡ getD (workWords (p .work)) 2 0 = s 4 (omega (arith, l)) in
+    let rest : Stands ws (at + 2) (workWords (p .work)) = λ o k. (let e : at + 2 + o ≡ at + suc (suc o) = omega arith in ap (word ws) e ∙ s (suc (suc o)) (omega arith)) in
+    rw (work-again ws (at + 2) (p .work) w rest, stopped, op, phase, goal, lt-ltb (flag (p .stopped)) 2 (flag-below (p .stopped)), lt-ltb (p .op) 65536 h, work-known (p .work), flag-again (p .stopped))
