@@ -10,7 +10,7 @@ use Rattle.rack.specs.declared.Rack.{Rack}
 use Rattle.rack.specs.declared.Made.{Made}
 use Rattle.rack.specs.declared.Ran.{Ran}
 use Rattle.rack.specs.Sound.{soundOf}
-use Rattle.rack.specs.Run.{madeOf, ranOf, runFrom, runOf}
+use Rattle.rack.specs.Run.{madeOf, ranOf, runOf}
 use Rattle.schedule.specs.Parts.{run-stays}
 use Rattle.words.specs.declared.Answer.{Answer}
 use Rattle.words.specs.Layout.{wordCount}

@@ -1,5 +1,5 @@
 -- Words that are written one after another.
-use Prim.Native.Nat.{ℕ, zero, suc, _+_, _^_, _≤_, _<_}
+use Prim.Native.Nat.{ℕ, suc, _+_, _^_, _≤_, _<_}
 use mathlib.Core.Path.{_≡_, refl, ap, sym, _∙_}
 use mathlib.Core.List.{List, [], _∷_, _++_}
 use native.Mathlib.Omega.{arith}
@@ -13,7 +13,6 @@ use mir.Facts.{toZ-ofZ}
 use Rattle.number.specs.Value.{alternatingOf}
 use Rattle.record.specs.declared.Cell.{Cell}
 use Rattle.rack.specs.declared.Goal.{Goal}
-use Rattle.rack.specs.declared.Goal.the-variants.{Read, Write}
 use Rattle.rack.specs.declared.Held.the-variants.{Full}
 use Rattle.rack.specs.declared.Message.{Message}
 use Rattle.rack.specs.declared.Pair.{Pair}
@@ -22,6 +21,7 @@ use Rattle.rack.specs.declared.Rack.{Rack}
 use Rattle.rack.specs.declared.Work.{Work}
 use Rattle.rack.specs.declared.Work.the-variants.{Asking, Keeping}
 use Rattle.words.specs.Places.{first-long}
+use Rattle.words.specs.Trip.{open-long}
 use Rattle.words.specs.Writing.{pairWords, openWords, toldWords, workWords, flag, partyWords, bodyKind, bodyWords, slotWords, putFirsts, headOf, partiesPut, pairsPut, wirePut, recordPut, writtenOf}
 
 -- some and then some more
@@ -87,11 +87,6 @@ stores-end place f n d e i g h = let k : i ≡ n = omega (arith, g .most) in g .
 -- a value that is written
 pub alternated : (z : ℤ) (r : ℕ) → mag z < 2 ^ 31 → r ≡ alternatingOf (toZ w32 (ofZ w32 z)) → alternatingOf z ≡ r
 alternated z r h e = sym (e ∙ ap alternatingOf (toZ-ofZ {w = w32} {z = z} (record { sfits = h })))
-
-pub open-long : (phase : ℕ) (cell : Cell) (goal : Goal) (set : ℕ) → length (openWords phase cell goal set) ≡ 5
-unfolding openWords
-open-long phase cell Read set = refl
-open-long phase cell (Write v) set = refl
 
 -- part after part
 pub written : (r : Rack) (d a b c e : List ℕ) → a ≡ headOf r d → b ≡ pairsPut r (partiesPut r a) → c ≡ wirePut r b → e ≡ recordPut r c → e ≡ writtenOf r d

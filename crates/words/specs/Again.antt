@@ -1,21 +1,19 @@
 -- The rack of the words that a rack leaves has that rack's parts again, within its sizes.
 use Prim.Native.Nat.{ℕ, suc, _+_, _*_, _%_, _≤_, _<_}
-use mathlib.Core.Path.{_≡_, refl, ap, sym, _∙_}
-use mathlib.Core.Bool.{Bool, true, false, cond, _||_, not}
-use mathlib.Core.List.{List, [], _∷_, _++_}
+use mathlib.Core.Path.{_≡_, ap, _∙_}
+use mathlib.Core.Bool.{Bool, true, false, cond}
+use mathlib.Core.List.{List, [], _∷_}
 use native.Mathlib.Omega.{arith}
 use lib.Dec.{ltb}
 use lib.ListN.{length, getD, drop, replicate, List·getD-append}
-use lib.Seq.{sets, length-sets}
+use lib.Seq.{length-sets}
 use borrow.Author.Tests.{lt-ltb, le-ltb}
-use Rattle.record.specs.declared.Entry.{Entry}
 use Rattle.record.specs.declared.Entry.the-variants.{ReadAsked, Done}
 use Rattle.record.specs.Entry.{rowOf}
 use Rattle.rack.specs.declared.Line.{Line}
 use Rattle.rack.specs.declared.Pair.{Pair}
 use Rattle.rack.specs.declared.Party.{Party}
 use Rattle.rack.specs.declared.Rack.{Rack}
-use Rattle.rack.specs.declared.Sizes.{Sizes}
 use Rattle.rack.specs.declared.Slot.{Slot}
 use Rattle.rack.specs.Stamp.{freshPair}
 use Rattle.rack.specs.Places.{empty, idle, partyAt, pairAt, heldAt}
@@ -23,8 +21,8 @@ use Rattle.rack.specs.Sound.{allBelow, soundOf}
 use Rattle.rack.specs.SoundLaws.{Sound, sound-of}
 use Rattle.rack.specs.Tests.{all-of}
 use Rattle.words.specs.Layout.{wordCount, partyPlace, pairPlace, slotPlace, entryPlace, word, firsts}
-use Rattle.words.specs.Reading.{byteOf, pairIn, partyIn, heldOf, slotIn, lineIn, lineKnown, linesIn, countOf, countIn, powerOf, sizesIn, rackOf}
-use Rattle.words.specs.Writing.{pairWords, partyWords, slotWords, putFirsts, headOf, partiesPut, pairWritten, pairsPut, wirePut, entryIn, recordPut, writtenOf}
+use Rattle.words.specs.Reading.{byteOf, pairIn, partyIn, slotIn, lineIn, lineKnown, linesIn, countOf, countIn, powerOf, sizesIn, rackOf}
+use Rattle.words.specs.Writing.{pairWords, partyWords, slotWords, headOf, partiesPut, pairWritten, pairsPut, wirePut, entryIn, recordPut, writtenOf}
 use Rattle.words.specs.Firsts.{firsts-long, firsts-at}
 use Rattle.words.specs.Places.{Stands, sets-stand, first-long, parts-below, parts-stand}
 use Rattle.words.specs.Trip.{entryFits, row-long, line-known, line-again, pair-long, pair-again, heldSmall, slot-long, slot-again, workSmall, plain, party-long, party-again}

@@ -1,11 +1,10 @@
 -- The rack of any 11,301 words. Words that are no state (a phase 3, a body 4, an operation number above 65,535, ..) give an unsound rack.
 use Prim.Native.Nat.{ℕ, _+_, min}
 use mathlib.Core.List.{List, _++_}
-use mathlib.Core.Bool.{Bool, true, false, cond, _&&_, _||_, not}
+use mathlib.Core.Bool.{Bool, false, cond, _&&_, _||_, not}
 use lib.Dec.{ltb, eqb}
 use lib.ListN.{drop, replicate}
 use Rattle.number.specs.Value.{signedOf}
-use Rattle.record.specs.declared.Entry.{Entry}
 use Rattle.record.specs.declared.Entry.the-variants.{Done}
 use Rattle.record.specs.Entry.{entryOf}
 use Rattle.record.specs.Record.{entryLimit}

@@ -1,20 +1,19 @@
 -- Words that are no state at all give an unsound rack. Said the other way round: the words of a sound rack are a state in each part.
-use Prim.Native.Nat.{ℕ, _+_, _≤_, _<_, min}
+use Prim.Native.Nat.{ℕ, _+_, _≤_, _<_}
 use mathlib.Core.Path.{_≡_, refl, ap, sym, _∙_}
 use mathlib.Core.Bool.{Bool, true, false, cond, _||_, not}
 use mathlib.Core.List.{List}
 use native.Mathlib.Omega.{arith}
-use lib.Dec.{ltb, leb, eqb}
-use borrow.Author.Tests.{lt-ltb, le-ltb, ltb-true, ltb-false}
+use lib.Dec.{ltb, eqb}
+use borrow.Author.Tests.{le-ltb, ltb-true, ltb-false}
 use Rattle.rack.specs.declared.Party.{Party}
-use Rattle.rack.specs.declared.Rack.{Rack}
 use Rattle.rack.specs.declared.Sizes.{Sizes}
 use Rattle.rack.specs.declared.Slot.{Slot}
 use Rattle.rack.specs.Places.{empty, idle, partyAt, heldAt}
 use Rattle.rack.specs.Sound.{allBelow, heldFits, messageFits, workFits, owed, soundOf}
 use Rattle.rack.specs.SoundLaws.{Sound, sound-of}
 use Rattle.rack.specs.Tests.{never, all-at}
-use Rattle.words.specs.Layout.{partyPlace, slotPlace, entryPlace, word, firsts}
+use Rattle.words.specs.Layout.{partyPlace, slotPlace, entryPlace, word}
 use Rattle.words.specs.Reading.{byteOf, partyKnown, partyIn, messageKnown, heldOf, slotIn, lineKnown, countOf, countIn, sizesIn, rackOf}
 use Rattle.words.specs.Firsts.{firsts-at}
 

@@ -1,8 +1,8 @@
 -- What was written is read again: where the words of a part stand, that part is read.
-use Prim.Native.Nat.{ℕ, suc, _+_, _*_, _%_, _≤_, _<_}
-use mathlib.Core.Path.{_≡_, refl, ap, sym, _∙_}
+use Prim.Native.Nat.{ℕ, suc, _+_, _<_}
+use mathlib.Core.Path.{_≡_, refl, ap, _∙_}
 use mathlib.Core.Bool.{Bool, true, false, cond, _&&_, _||_}
-use mathlib.Core.List.{List, [], _∷_, _++_}
+use mathlib.Core.List.{List, _++_}
 use native.Mathlib.Omega.{arith}
 use lib.Dec.{ltb, eqb}
 use lib.ListN.{length, getD, length-append}
@@ -243,7 +243,7 @@ work-again ws at (Keeping cell goal set held) h s =
     let q = open-again ws at 2 cell goal set (pairWords held) s in
     rw (q .goals, q .phases, q .cells, q .sets, byte-same (cell .0) (h .0), set-same set (h .1 .0), pair-again ws (at + 5) held (h .1 .1) (q .holds))
 
-open-long : (phase : ℕ) (cell : Cell) (goal : Goal) (set : ℕ) → length (openWords phase cell goal set) ≡ 5
+pub open-long : (phase : ℕ) (cell : Cell) (goal : Goal) (set : ℕ) → length (openWords phase cell goal set) ≡ 5
 unfolding openWords
 open-long phase cell Read set = refl
 open-long phase cell (Write v) set = refl
