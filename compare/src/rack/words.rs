@@ -97,10 +97,13 @@ pub fn decode(words: &[u32]) -> Option<Rack> {
         wire: Wire([None; SLOTS]),
         record: Vec::with_capacity(entries as usize),
     };
-    for (client, words) in
-        rack.clients.iter_mut().zip(words[CLIENTS_AT..].chunks_exact(CLIENT_WORDS)).take(clients as usize)
-    {
-        *client = client_from(words)?;
+    for (number, words) in words[CLIENTS_AT..PAIRS_AT].chunks_exact(CLIENT_WORDS).enumerate() {
+        // Beyond the sizes it doesn't matter what the words are.
+        match client_from(words) {
+            Some(client) => rack.clients[number] = client,
+            None if number < clients as usize => return None,
+            None => (),
+        }
     }
     for (slot, words) in rack.wire.0.iter_mut().zip(words[SLOTS_AT..].chunks_exact(SLOT_WORDS)) {
         *slot = slot_from(words)?;
