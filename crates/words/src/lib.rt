@@ -780,7 +780,7 @@ fn answered(done: usize, refusal: u8) -> Answer
 pub fn made(words: &mut [u32], replicas: u32, clients: u32, cells: u32) -> Answer
     ensures { λ r. ⌜ (r ≡ madeOutcome replicas clients cells (now (words .entry)) .answer) × (now (words .exit) ≡ madeOutcome replicas clients cells (now (words .entry)) .lent) ⌝ }
 {
-    if words.len() != 11301 {
+    if words.len() != WORDS {
         return answered(0, 20);
     }
     let made = Rack::made(replicas, clients, cells);
@@ -794,7 +794,7 @@ pub fn made(words: &mut [u32], replicas: u32, clients: u32, cells: u32) -> Answe
 pub fn run(words: &mut [u32], allowance: usize, events: &[u32]) -> Answer
     ensures { λ r. ⌜ (r ≡ runOutcome (now (words .entry)) allowance (now (events .entry)) .answer) × (now (words .exit) ≡ runOutcome (now (words .entry)) allowance (now (events .entry)) .lent) ⌝ }
 {
-    if words.len() != 11301 {
+    if words.len() != WORDS {
         return answered(0, 20);
     }
     let rack = load(words);
