@@ -32,4 +32,27 @@ uint64_t adze_write_record(const uint32_t *rows, size_t words, uint8_t *bytes, s
  * (21 to 29), bits 0 to 31 the number of its entry. */
 uint64_t adze_verdict(const uint8_t *bytes, size_t length);
 
+/* A rack is ADZE_RACK_WORDS words in memory, in this order:
+ *   replicas, clients, cells, power (bit k is 1 when replica k is on), count of entries;
+ *   8 clients of 10 words: stopped (0 or 1), operation number, phase (0 idle, 1 asking, 2 keeping), cell, goal (0 read, 1 write),
+ *     the goal's value, set of replicas, held number, held rank, held value;
+ *   240 pairs of 3 words, that of replica k and cell x at place 16 k + x: number, rank, value;
+ *   256 slots of 9 words: 0 empty or 1 full, body (0 ask, 1 tell, 2 keep, 3 kept), client, replica, cell, operation number,
+ *     number, rank, value;
+ *   2,048 entries of 4 words: the rows of a record.
+ * A value is the number it is written as. Words that a kind hasn't got aren't looked at; a run that does an event leaves 0 there.
+ * Clients and pairs beyond the sizes and entries beyond the count are no part of the rack: neither looked at nor changed. */
+#define ADZE_RACK_WORDS 11301
+
+/* Both calls answer: bits 0 to 31 the number of events done, bits 32 to 39 the refusal, 0 for none, the rest 0. The refusal is 20
+ * when `words` isn't ADZE_RACK_WORDS, and then nothing is looked at or changed. */
+
+/* Makes the fresh rack of these sizes, and every word that it hasn't got 0; refused 1 where a size is out of range, and then the
+ * fresh rack of sizes 1, 1, 1 is made. */
+uint64_t adze_rack_made(uint32_t *rack, size_t words, uint32_t replicas, uint32_t clients, uint32_t cells);
+
+/* Runs a schedule of four words an event (kind, two fields, value; docs/FORMAT.md) until the allowance is used, the schedule ends,
+ * or an event is refused (2 to 13). The rack is then the one after exactly the events done; where none was done no word changes. */
+uint64_t adze_rack_run(uint32_t *rack, size_t words, uint32_t allowance, const uint32_t *events, size_t event_words);
+
 #endif

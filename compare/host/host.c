@@ -3,10 +3,14 @@
  *
  * It reads batches of requests from standard input and writes a batch of responses for each. A batch is a count of bytes
  * (four of them) and then these bytes. A request is a head and then its source; a response is the call's answer, a word
- * that is 1 when the source was changed, and all memory that was lent, with the fences on both sides of it. */
+ * that is 1 when the source was changed, and all memory that was lent, with the fences on both sides of it.
+ *
+ * A rack's request has a state of `lent` words and then a schedule as its source, and `number` is the allowance of RACK_RUN.
+ * RACK_STEPS tries the events one by one, each in a call of its own. Of each call the response is the answer, a count, and as
+ * many places and words: all that the call changed of the state and of the fences, found by comparing every word. */
 #include "adzequarry.h"
 
-enum { READ_NUMBER = 1, WRITE_NUMBER, ALTERNATING, SIGNED, READ_RECORD, WRITE_RECORD, WRITE_THEN_READ, READ_THEN_WRITE, VERDICT };
+enum { READ_NUMBER = 1, WRITE_NUMBER, ALTERNATING, SIGNED, READ_RECORD, WRITE_RECORD, WRITE_THEN_READ, READ_THEN_WRITE, VERDICT, RACK_MADE, RACK_STEPS, RACK_RUN };
 
 struct head {
     uint32_t call;
@@ -16,21 +20,32 @@ struct head {
     uint64_t at;
 };
 
-enum { MOST_REQUESTS = 1 << 21, MOST_RESPONSES = 1 << 23, MOST_ELEMENTS = 1 << 15, FENCE = 5 };
+enum { MOST_REQUESTS = 1 << 21, MOST_RESPONSES = 1 << 25, MOST_ELEMENTS = 1 << 15, MOST_EVENT_WORDS = 1 << 18, FENCE = 5 };
 
 static uint8_t requests[MOST_REQUESTS];
 static uint8_t responses[MOST_RESPONSES];
 static uint32_t source[MOST_ELEMENTS], between[MOST_ELEMENTS];
 static uint8_t lent_bytes[MOST_ELEMENTS], byte_filling[MOST_ELEMENTS];
 static uint32_t lent_words[MOST_ELEMENTS], word_filling[MOST_ELEMENTS];
+static uint32_t words_before[MOST_ELEMENTS], events[MOST_EVENT_WORDS + 16];
 
-/* Eight bytes anywhere in memory. An emulator takes about as long for one byte as for eight. */
+/* Eight bytes anywhere in memory. An emulator takes about as long for one byte as for eight, and for each turn of a loop. */
 typedef uint64_t __attribute__((may_alias, aligned(1))) eight;
+
+static void copy_64(uint8_t *to, const uint8_t *from) {
+    const eight *f = (const eight *)from;
+    eight *t = (eight *)to;
+    eight a = f[0], b = f[1], c = f[2], d = f[3];
+    t[0] = a, t[1] = b, t[2] = c, t[3] = d;
+    a = f[4], b = f[5], c = f[6], d = f[7];
+    t[4] = a, t[5] = b, t[6] = c, t[7] = d;
+}
 
 /* The compiler and the library may call these. */
 void *memcpy(void *to, const void *from, size_t count) {
     uint8_t *t = to;
     const uint8_t *f = from;
+    for (; count >= 64; count -= 64, t += 64, f += 64) copy_64(t, f);
     for (; count >= 8; count -= 8, t += 8, f += 8) *(eight *)t = *(const eight *)f;
     while (count-- > 0) *t++ = *f++;
     return to;
@@ -118,9 +133,54 @@ static uint64_t answer_of(const struct head *h) {
     }
 }
 
+static int is_of_racks(const struct head *h) { return h->call >= RACK_MADE; }
+
 static size_t source_size(const struct head *h) {
-    int of_words = h->call == WRITE_RECORD || h->call == WRITE_THEN_READ;
+    int of_words = h->call == WRITE_RECORD || h->call == WRITE_THEN_READ || is_of_racks(h);
     return h->source * (of_words ? sizeof(uint32_t) : 1);
+}
+
+static int are_same_64(const void *one, const void *other) {
+    const eight *a = one, *b = other;
+    return ((a[0] ^ b[0]) | (a[1] ^ b[1]) | (a[2] ^ b[2]) | (a[3] ^ b[3]) | (a[4] ^ b[4]) | (a[5] ^ b[5]) | (a[6] ^ b[6]) |
+            (a[7] ^ b[7])) == 0;
+}
+
+/* Puts the answer of a call on a rack and all that it changed, and takes note of it. */
+static size_t put_changes(uint64_t answer, size_t count, size_t at) {
+    uint32_t changes = 0;
+    at = put(at, &answer, sizeof answer);
+    size_t counted_at = at;
+    at = put(at, &changes, sizeof changes);
+    for (size_t place = 0; place < count; place++) {
+        while (place + 16 <= count && are_same_64(lent_words + place, words_before + place)) place += 16;
+        if (place == count) break;
+        if (lent_words[place] == words_before[place]) continue;
+        uint32_t change[2] = {(uint32_t)place - FENCE, lent_words[place]};
+        at = put(at, change, sizeof change);
+        words_before[place] = lent_words[place];
+        changes++;
+    }
+    memcpy(responses + counted_at, &changes, sizeof changes);
+    return at;
+}
+
+/* A request on a rack, whose state and schedule stand at `sent`. */
+static size_t respond_of_racks(const struct head *h, const uint8_t *sent, size_t at) {
+    size_t count = h->lent + 2 * FENCE, length = h->source - h->lent;
+    if (h->source < h->lent || count > MOST_ELEMENTS || length > MOST_EVENT_WORDS) end(8);
+    uint32_t *state = lent_words + FENCE;
+    memcpy(lent_words, word_filling, count * sizeof(uint32_t));
+    memcpy(state, sent, h->lent * sizeof(uint32_t));
+    memcpy(words_before, lent_words, count * sizeof(uint32_t));
+    memcpy(events, sent + h->lent * sizeof(uint32_t), length * sizeof(uint32_t));
+    memset(events + length, 0, 64);
+    if (h->call == RACK_MADE) return put_changes(adze_rack_made(state, h->lent, events[0], events[1], events[2]), count, at);
+    if (h->call == RACK_RUN) return put_changes(adze_rack_run(state, h->lent, h->number, events, length), count, at);
+    for (size_t event = 0; event + 4 <= length; event += 4)
+        at = put_changes(adze_rack_run(state, h->lent, 1, events + event, 4), count, at);
+    if (memcmp(events, sent + h->lent * sizeof(uint32_t), length * sizeof(uint32_t)) != 0) end(9);
+    return at;
 }
 
 /* Does one request, whose source stands at `sent`, and puts its response at place `at`. Behind the source stand bytes that
@@ -151,7 +211,7 @@ static void serve_batch(void) {
         struct head h;
         memcpy(&h, requests + at, sizeof h);
         at += sizeof h;
-        answered = respond(&h, requests + at, answered);
+        answered = (is_of_racks(&h) ? respond_of_racks : respond)(&h, requests + at, answered);
         at += source_size(&h);
     }
     uint32_t count = (uint32_t)answered;

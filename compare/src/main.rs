@@ -3,6 +3,7 @@
 #![forbid(unsafe_code)]
 
 mod check;
+mod engine;
 mod numbers;
 mod racks;
 mod rattle;
@@ -26,6 +27,7 @@ const USAGE: &str = "usage: compare [all | records | verdicts | bench-sheet] [--
        compare samples FOLDER          makes the sample records
        compare check-samples FOLDER    holds the sample records to what would be made
        compare racks [--seed NUMBER]   holds the two independent racks to each other
+       compare engine EVENTS [--seed NUMBER]   holds them and the Rattle engine to each other
        compare drill                   runs the script on standard input
        compare scripts FOLDER [--seed NUMBER]   makes scripts for drill
        compare bench-rack              times the quick rack";
@@ -42,6 +44,8 @@ fn main() -> ExitCode {
         ["bench-sheet"] => bench_sheet(),
         ["racks"] => racks::compare_racks(USUAL_SEED),
         ["racks", "--seed", seed] => seed.parse().map_or_else(|_| usage(), racks::compare_racks),
+        ["engine", events] => engine_events(events, USUAL_SEED),
+        ["engine", events, "--seed", seed] => seed.parse().map_or_else(|_| usage(), |seed| engine_events(events, seed)),
         ["drill"] => racks::drill_program(),
         ["scripts", folder] => racks::make_scripts(Path::new(folder), USUAL_SEED),
         ["scripts", folder, "--seed", seed] => {
@@ -65,6 +69,10 @@ fn main() -> ExitCode {
 fn usage() -> bool {
     eprintln!("{USAGE}");
     false
+}
+
+fn engine_events(events: &str, seed: u64) -> bool {
+    events.parse().map_or_else(|_| usage(), |events| racks::compare_engine(seed, events))
 }
 
 fn all(seed: u64) -> bool {

@@ -20,6 +20,9 @@ pub enum Call {
     WriteThenRead,
     ReadThenWrite,
     Verdict,
+    RackMade,
+    RackSteps,
+    RackRun,
 }
 
 /// What is lent to a call to be read.

@@ -1,5 +1,7 @@
-//! Times the Rattle judge beside the ordinary Rust judge by the rule: the same full records, in one run.
+//! Times the Rattle judge beside the ordinary Rust judge by the rule, and the Rattle engine beside the quick rack: the same
+//! full records and the same schedules, in one run.
 
+mod racks;
 mod shapes;
 
 use compare::law::{by_rule, Verdict};
@@ -83,6 +85,16 @@ fn print_row(title: &str, entries: &str, bytes: &str, verdict: &str, rattle: f64
 }
 
 fn main() -> ExitCode {
+    let racks_only = std::env::args().nth(1).as_deref() == Some("racks");
+    if (racks_only || judges()) && racks::times() {
+        ExitCode::SUCCESS
+    } else {
+        ExitCode::FAILURE
+    }
+}
+
+/// Prints the times of the judges; false where they don't agree.
+fn judges() -> bool {
     println!(
         "{:34} {:>7} {:>6}  {:24} {:>9} {:>9} {:>6}",
         "record", "entries", "bytes", "verdict", "Rattle", "Rust", "ratio"
@@ -92,7 +104,7 @@ fn main() -> ExitCode {
         let (verdict, other) = (rattle_verdict(&bytes), by_rule::verdict(&bytes));
         if verdict != other {
             println!("{name}: the two judges DO NOT AGREE: Rattle {verdict}, Rust {other}");
-            return ExitCode::FAILURE;
+            return false;
         }
         let (rattle, rust) = times_of(&bytes);
         print_row(name, &entries.to_string(), &bytes.len().to_string(), &verdict.to_string(), rattle, rust);
@@ -103,5 +115,5 @@ fn main() -> ExitCode {
     }
     usual.print("all but worst hashing");
     all.print("all");
-    ExitCode::SUCCESS
+    true
 }

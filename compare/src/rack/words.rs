@@ -13,8 +13,8 @@
 //!
 //! A value is the number it is written as. Words that a kind hasn't got stand as 0 and aren't looked at: all of an idle
 //! client but its first three, the value of a read's goal, what an asking client with an empty set holds (nothing), all of
-//! an empty slot but its first, the pair of an ask or a kept, entries beyond the count. A run that does an event leaves 0
-//! there. Clients, pairs and power bits beyond the sizes are no part of the rack: never looked at and never changed.
+//! an empty slot but its first, the pair of an ask or a kept. A run that does an event leaves 0 there. Clients, pairs and
+//! power bits beyond the sizes and entries beyond the count are no part of the rack: never looked at and never changed.
 //!
 //! Words that are no state at all (a phase 3, a body 4, a count above 2,048, bits above the fifteenth replica's power or the
 //! sixteen of a set, an entry of kind 4 or of a ninth client) are unsound: refused 2 as soon as an event is tried.
@@ -97,8 +97,13 @@ pub fn decode(words: &[u32]) -> Option<Rack> {
         wire: Wire([None; SLOTS]),
         record: Vec::with_capacity(entries as usize),
     };
-    for (client, words) in rack.clients.iter_mut().zip(words[CLIENTS_AT..].chunks_exact(CLIENT_WORDS)) {
-        *client = client_from(words)?;
+    for (number, words) in words[CLIENTS_AT..PAIRS_AT].chunks_exact(CLIENT_WORDS).enumerate() {
+        // Beyond the sizes it doesn't matter what the words are.
+        match client_from(words) {
+            Some(client) => rack.clients[number] = client,
+            None if number < clients as usize => return None,
+            None => (),
+        }
     }
     for (slot, words) in rack.wire.0.iter_mut().zip(words[SLOTS_AT..].chunks_exact(SLOT_WORDS)) {
         *slot = slot_from(words)?;
@@ -169,9 +174,22 @@ pub fn run_words(state: &mut [u32], allowance: usize, events: &[u32]) -> Ran {
     };
     let ran = rack.run(allowance, &events);
     if ran.done > 0 {
-        state.copy_from_slice(&encode(&rack));
+        write(&rack, state);
     }
     ran
+}
+
+/// Writes what is part of the rack.
+fn write(rack: &Rack, state: &mut [u32]) {
+    let words = encode(rack);
+    let (replicas, clients, cells) =
+        (rack.sizes.replicas as usize, rack.sizes.clients as usize, rack.sizes.cells as usize);
+    let mut copy = |from: usize, count: usize| state[from..from + count].copy_from_slice(&words[from..from + count]);
+    copy(0, CLIENTS_AT + clients * CLIENT_WORDS);
+    for replica in 0..replicas {
+        copy(PAIRS_AT + replica * CELLS * PAIR_WORDS, cells * PAIR_WORDS);
+    }
+    copy(SLOTS_AT, SLOTS * SLOT_WORDS + rack.record.len() * ROW);
 }
 
 /// The answer of such a call: bits 0 to 31 the events done, bits 32 to 39 the refusal, 0 for none.

@@ -1,10 +1,11 @@
--- A number takes at most five bytes, so that its answer fits one number.
+-- What an answer counts fits one number: a number takes at most five bytes, an entry's number is at most 2,048, a schedule does no more than it is allowed.
 use Prim.Native.Nat.{ℕ, suc, _+_, _^_, _≤_, _<_}
-use mathlib.Core.Path.{_≡_, refl, sym, _∙_}
+use mathlib.Core.Path.{_≡_, refl, ap, sym, _∙_}
 use mathlib.Core.Bool.{Bool, true, false, cond}
 use mathlib.Core.List.{List, [], _∷_}
 use native.Mathlib.Omega.{arith}
 use native.Mathlib.Decide.{decLe}
+use lib.Dec.{eqb}
 use lib.ListN.{length, getD}
 use Rattle.number.specs.Number.{numberBytes, numberAt, putAnswer}
 use Rattle.number.specs.Laws.{length-few, put-fits, put-refused}
@@ -21,6 +22,12 @@ use Rattle.verdict.specs.declared.Verdict.{Verdict}
 use Rattle.verdict.specs.declared.Verdict.the-variants.{Lawful as saysLawful, Unlawful as saysUnlawful, Refused as saysRefused}
 use Rattle.record.specs.declared.Answer.{Answer}
 use Rattle.record.specs.declared.Answer.the-variants.{All, Refused as Unread}
+use Rattle.rack.specs.Run.{madeOf, runOf}
+use Rattle.schedule.specs.Steps.{run-steps}
+use Rattle.words.specs.declared.Answer.{Answer as Done}
+use Rattle.words.specs.Layout.{wordCount}
+use Rattle.words.specs.Reading.{rackOf}
+use Rattle.words.specs.Calls.{unfit, makes, madeOutcome, leaves, runOutcome}
 use Rattle.exports.specs.Packed.{Small, Brief}
 
 -- the place after a number is at most five places further
@@ -78,3 +85,22 @@ unfolding takenFor
 verdict-brief s b saysLawful j = tt
 verdict-brief s b (saysUnlawful c) j = tt
 verdict-brief s b (saysRefused k n) j = verdict-named s b (recordOf s) refl k n j
+
+-- ---- racks
+
+-- the maker does no event, and a schedule no more than it is allowed
+pub made-few : (x y z : ℕ) (ws : List ℕ) (a : Done) → a ≡ madeOutcome x y z ws .answer → a .done < 2 ^ 32
+unfolding madeOutcome makes
+made-few x y z ws a e = go (eqb (length ws) wordCount) (ap (λ (k : Done). k .done) e)
+  where
+    go : (t : Bool) → a .done ≡ cond t (makes (madeOf x y z)) (unfit ws) .answer .done → a .done < 2 ^ 32
+    go true p = omega arith
+    go false p = omega arith
+
+pub run-few : (ws : List ℕ) (n : ℕ) (es : List ℕ) (a : Done) → n < 2 ^ 32 → a ≡ runOutcome ws n es .answer → a .done < 2 ^ 32
+unfolding runOutcome leaves
+run-few ws n es a h e = go (eqb (length ws) wordCount) (ap (λ (k : Done). k .done) e)
+  where
+    go : (t : Bool) → a .done ≡ cond t (leaves (runOf (rackOf ws) n es) ws) (unfit ws) .answer .done → a .done < 2 ^ 32
+    go true p = omega (arith, run-steps (rackOf ws) n es .most)
+    go false p = omega arith

@@ -1,9 +1,10 @@
 -- Each call for C has one outcome, its answer can be unpacked again, and wrong answers are ruled out.
-use Prim.Native.Nat.{ℕ, _+_, _*_, _/_, _%_, _^_, _<_}
-use mathlib.Core.Path.{_≡_, sym, ap, _∙_}
+use Prim.Native.Nat.{ℕ, _+_, _*_, _/_, _%_, _^_, _≤_, _<_}
+use mathlib.Core.Path.{_≡_, refl, sym, ap, _∙_}
+use mathlib.Core.Bool.{false}
 use mathlib.Core.List.{List, [], _∷_}
 use native.Mathlib.Omega.{arith}
-use lib.ListN.{getD}
+use lib.ListN.{length, getD}
 use Rattle.number.specs.Number.{numberAt, putAnswer, putBytes}
 use Rattle.number.specs.Sheet.{read-80-00, read-80}
 use Rattle.record.specs.declared.Answer.the-variants.{All, Refused as Unread}
@@ -11,7 +12,12 @@ use Rattle.record.specs.Record.{readOutcome, writeOutcome}
 use Rattle.record.specs.Sheet.{sheetBytes}
 use Rattle.verdict.specs.OnlyOne.{one-verdict}
 use Rattle.verdict.specs.Bench.{stale, twelve-verdict, stale-verdict}
-use Rattle.exports.specs.Packed.{packedNumber, packedPut, packedAnswer, packedVerdict, Judged}
+use Rattle.rack.specs.Sound.{soundOf}
+use Rattle.words.specs.Layout.{wordCount}
+use Rattle.words.specs.Reading.{rackOf}
+use Rattle.words.specs.Calls.{madeOutcome, runOutcome}
+use Rattle.words.specs.OnlyOne.{not-made, not-run, unsound-stays}
+use Rattle.exports.specs.Packed.{packedNumber, packedPut, packedAnswer, packedVerdict, Judged, packedRun}
 
 -- ---- unpacking
 
@@ -44,6 +50,14 @@ one-write-record ws d r r′ e e′ p q = (p .0 ∙ sym (q .0), p .1 ∙ sym (q 
 pub one-judged : (s : List ℕ) → ((i : ℕ) → getD s i 0 < 256) → (r r′ : ℕ) → Judged s r → Judged s r′ → r ≡ r′
 one-judged s bytes r r′ (v, (j, p)) (w, (k, q)) = p ∙ ap packedVerdict (one-verdict s bytes v w j k) ∙ sym q
 
+pub one-rack-made : (x y z : ℕ) (ws : List ℕ) (r r′ : ℕ) (e e′ : List ℕ) → (r ≡ packedRun (madeOutcome x y z ws .answer)) × (e ≡ madeOutcome x y z ws .lent)
+    → (r′ ≡ packedRun (madeOutcome x y z ws .answer)) × (e′ ≡ madeOutcome x y z ws .lent) → (r ≡ r′) × (e ≡ e′)
+one-rack-made x y z ws r r′ e e′ p q = (p .0 ∙ sym (q .0), p .1 ∙ sym (q .1))
+
+pub one-rack-run : (ws : List ℕ) (n : ℕ) (es : List ℕ) (r r′ : ℕ) (e e′ : List ℕ) → (r ≡ packedRun (runOutcome ws n es .answer)) × (e ≡ runOutcome ws n es .lent)
+    → (r′ ≡ packedRun (runOutcome ws n es .answer)) × (e′ ≡ runOutcome ws n es .lent) → (r ≡ r′) × (e ≡ e′)
+one-rack-run ws n es r r′ e e′ p q = (p .0 ∙ sym (q .0), p .1 ∙ sym (q .1))
+
 -- ---- wrong answers
 
 -- 80 00 is refused 22, and not the number 0 in two bytes; 80 is refused 21, and not the number 0
@@ -63,3 +77,18 @@ not-refused r (v, (j, p)) h = let e = p ∙ ap packedVerdict (twelve-verdict v j
 pub not-lawful : Judged stale 0 → ⊥
 unfolding packedVerdict
 not-lawful (v, (j, p)) = let e = p ∙ ap packedVerdict (stale-verdict v j) in omega arith
+
+-- sizes 16, 8, 16 aren't made, and with another length nothing is run
+pub not-rack-made : (ws : List ℕ) (r : ℕ) → length ws ≡ wordCount → r ≡ packedRun (madeOutcome 16 8 16 ws .answer) → r ≡ 0 → ⊥
+unfolding packedRun
+not-rack-made ws r h p q = not-made ws (madeOutcome 16 8 16 ws .answer) h refl (omega arith)
+
+pub not-rack-run : (ws : List ℕ) (n : ℕ) (es : List ℕ) (r : ℕ) → (length ws ≡ wordCount → ⊥) → r ≡ packedRun (runOutcome ws n es .answer) → r ≡ 0 → ⊥
+unfolding packedRun
+not-rack-run ws n es r h p q = not-run ws n es (runOutcome ws n es .answer) h refl (omega arith)
+
+-- an unsound rack is refused 2 as soon as an event is tried, and 0 is no answer there
+pub not-rack-done : (ws : List ℕ) (n : ℕ) (es : List ℕ) (r : ℕ) → length ws ≡ wordCount → soundOf (rackOf ws) ≡ false → (n ≡ 0 → ⊥) → 4 ≤ length es
+    → r ≡ packedRun (runOutcome ws n es .answer) → r ≡ 0 → ⊥
+unfolding packedRun
+not-rack-done ws n es r h s l k p q = let e = p ∙ ap packedRun (unsound-stays ws n es h s l k .0) in omega arith

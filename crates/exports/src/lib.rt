@@ -1,9 +1,11 @@
 // The calls for C and Rust: include/adzequarry.h has their declarations. An enum can't cross to C, so an answer is packed into one number.
 ghost use mathlib.Core.Path.{_≡_};
+ghost use Prim.Native.Nat.{_^_, _<_};
 ghost use Rattle.number.specs.Number.{numberAt, putAnswer, putBytes};
 ghost use Rattle.number.specs.Value.{alternatingOf, signedOf};
 ghost use Rattle.record.specs.Record.{readOutcome, writeOutcome};
-ghost use Rattle.exports.specs.Packed.{packedNumber, packedPut, packedAnswer, Small, packedVerdict, Brief, Judged};
+ghost use Rattle.exports.specs.Packed.{packedNumber, packedPut, packedAnswer, Small, packedVerdict, Brief, Judged, packedRun};
+ghost use Rattle.words.specs.Calls.{madeOutcome, runOutcome};
 use number::Number;
 use number::Put;
 use record::Answer;
@@ -95,4 +97,30 @@ pub extern "C" fn adze_verdict(bytes: &[u8]) -> u64
 {
     let v = verdict::judge(bytes);
     packed_verdict(v)
+}
+
+// What was done on a rack as one number.
+fn packed_run(a: words::Answer) -> u64
+    requires { ⌜ a .done < 2 ^ 32 ⌝ }
+    ensures { λ r. ⌜ r ≡ packedRun a ⌝ }
+{
+    4294967296 * (a.refusal as u64) + a.done as u64
+}
+
+// Makes a fresh rack in lent words.
+#[no_mangle]
+pub extern "C" fn adze_rack_made(rack: &mut [u32], replicas: u32, clients: u32, cells: u32) -> u64
+    ensures { λ r. ⌜ (r ≡ packedRun (madeOutcome replicas clients cells (now (rack .entry)) .answer)) × (now (rack .exit) ≡ madeOutcome replicas clients cells (now (rack .entry)) .lent) ⌝ }
+{
+    let a = words::made(rack, replicas, clients, cells);
+    packed_run(a)
+}
+
+// Runs a schedule on the rack of lent words. An allowance of 32 bits, so that the number of events done fits the answer.
+#[no_mangle]
+pub extern "C" fn adze_rack_run(rack: &mut [u32], allowance: u32, events: &[u32]) -> u64
+    ensures { λ r. ⌜ (r ≡ packedRun (runOutcome (now (rack .entry)) allowance (now (events .entry)) .answer)) × (now (rack .exit) ≡ runOutcome (now (rack .entry)) allowance (now (events .entry)) .lent) ⌝ }
+{
+    let a = words::run(rack, allowance as usize, events);
+    packed_run(a)
 }

@@ -4,7 +4,7 @@ use super::*;
 use crate::law::{by_rule, by_search, judged_operations, Verdict};
 use crate::paper::record::{bytes_of, read_record};
 use crate::rack::driver::Driver;
-use crate::rack::lockstep::compare;
+use crate::rack::lockstep::{compare, Followed, Follower};
 use crate::rack::quick::QuickRack;
 use crate::rack::soundness::is_unsound;
 use crate::rack::starts;
@@ -116,7 +116,9 @@ fn a_sound_rack_stays_sound_and_holds_something_exactly_after_a_tell() {
 
 #[test]
 fn the_quick_rack_says_what_the_clear_rack_says() {
-    let tally = compare::<QuickRack>(&mut Random::from_seed(44), 30_000).unwrap_or_else(|trouble| panic!("{trouble}"));
+    let quick: Box<dyn Follower> = Box::new(Followed::<QuickRack>::default());
+    let tally = compare(&mut [("the quick rack", quick)], &mut Random::from_seed(44), 30_000)
+        .unwrap_or_else(|trouble| panic!("{trouble}"));
     assert!(tally.done.iter().take(9).all(|times| *times > 0), "{tally:?}");
     assert!(tally.refused[2..].iter().all(|times| *times > 0), "{tally:?}");
     assert!(tally.done.iter().sum::<u64>() > tally.events / 2, "{tally:?}");

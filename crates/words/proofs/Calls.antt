@@ -1,0 +1,79 @@
+-- What the calls leave, from what their parts give.
+use Prim.Native.Nat.{ℕ}
+use mathlib.Core.Path.{_≡_, refl, ap, sym, _∙_}
+use mathlib.Core.Bool.{Bool, true, false, cond}
+use mathlib.Core.List.{List}
+use lib.Dec.{eqb, ltb}
+use lib.ListN.{length, replicate}
+use borrow.Author.Tests.{eq-eqb, ne-eqb}
+use Rattle.rack.specs.declared.Rack.{Rack}
+use Rattle.rack.specs.declared.Made.{Made}
+use Rattle.rack.specs.declared.Ran.{Ran}
+use Rattle.rack.specs.Sound.{soundOf}
+use Rattle.rack.specs.Run.{madeOf, ranOf, runOf}
+use Rattle.schedule.specs.Parts.{run-stays}
+use Rattle.words.specs.declared.Answer.{Answer}
+use Rattle.words.specs.Layout.{wordCount}
+use Rattle.words.specs.Reading.{rackOf}
+use Rattle.words.specs.Writing.{writtenOf}
+use Rattle.words.specs.Calls.{answerOf, makes, madeOutcome, leaves, runOutcome}
+
+-- ---- the maker
+
+pub made-unfit : (x y z : ℕ) (ws : List ℕ) (a : Answer) → (length ws ≡ wordCount → ⊥) → a ≡ answerOf 0 20
+    → (a ≡ madeOutcome x y z ws .answer) × (ws ≡ madeOutcome x y z ws .lent)
+unfolding madeOutcome
+made-unfit x y z ws a h p = let e = ne-eqb (length ws) wordCount h in (rw e p, rw e)
+
+pub made-fit : (x y z : ℕ) (ws : List ℕ) (m : Made) (blank after : List ℕ) (a : Answer) → length ws ≡ wordCount → m ≡ madeOf x y z → blank ≡ replicate (length ws) 0
+    → after ≡ writtenOf (m .rack) blank → a ≡ answerOf 0 (m .refusal) → (a ≡ madeOutcome x y z ws .answer) × (after ≡ madeOutcome x y z ws .lent)
+unfolding madeOutcome makes
+made-fit x y z ws m blank after a h em eb ew ea =
+    let e = eq-eqb (length ws) wordCount h in
+    let b : blank ≡ replicate wordCount 0 = eb ∙ ap (λ (n : ℕ). replicate n 0) h in
+    (rw e (ea ∙ ap (λ (k : Made). answerOf 0 (k .refusal)) em), rw e (ew ∙ ap (writtenOf (m .rack)) b ∙ ap (λ (k : Made). writtenOf (k .rack) (replicate wordCount 0)) em))
+
+-- ---- a schedule
+
+pub run-unfit : (ws : List ℕ) (n : ℕ) (es : List ℕ) (a : Answer) → (length ws ≡ wordCount → ⊥) → a ≡ answerOf 0 20
+    → (a ≡ runOutcome ws n es .answer) × (ws ≡ runOutcome ws n es .lent)
+unfolding runOutcome
+run-unfit ws n es a h p = let e = ne-eqb (length ws) wordCount h in (rw e p, rw e)
+
+-- the run of the rack that was read is that of the words' rack
+ran : (ws : List ℕ) (n : ℕ) (es : List ℕ) (r : Rack) (q : Ran) → r ≡ rackOf ws → q ≡ runOf r n es → q ≡ runOf (rackOf ws) n es
+ran ws n es r q er eq = eq ∙ ap (λ (s : Rack). runOf s n es) er
+
+pub run-none : (ws : List ℕ) (n : ℕ) (es : List ℕ) (r : Rack) (q : Ran) (a : Answer) → length ws ≡ wordCount → r ≡ rackOf ws → q ≡ runOf r n es → q .done ≡ 0
+    → a ≡ answerOf 0 (q .refusal) → (a ≡ runOutcome ws n es .answer) × (ws ≡ runOutcome ws n es .lent)
+unfolding runOutcome leaves
+run-none ws n es r q a h er eq ed ea =
+    let e = eq-eqb (length ws) wordCount h in
+    let p = ran ws n es r q er eq in
+    let d = eq-eqb (q .done) 0 ed in
+    (rw (e, ← p) (ea ∙ ap (λ (k : ℕ). answerOf k (q .refusal)) (sym ed)), rw (e, ← p, d))
+
+pub run-some : (ws : List ℕ) (n : ℕ) (es : List ℕ) (r : Rack) (q : Ran) (after : List ℕ) (a : Answer) → length ws ≡ wordCount → r ≡ rackOf ws → q ≡ runOf r n es
+    → (q .done ≡ 0 → ⊥) → after ≡ writtenOf (q .rack) ws → a ≡ answerOf (q .done) (q .refusal) → (a ≡ runOutcome ws n es .answer) × (after ≡ runOutcome ws n es .lent)
+unfolding runOutcome leaves
+run-some ws n es r q after a h er eq ed ew ea =
+    let e = eq-eqb (length ws) wordCount h in
+    let p = ran ws n es r q er eq in
+    let d = ne-eqb (q .done) 0 ed in
+    (rw (e, ← p) ea, rw (e, ← p, d) ew)
+
+-- where an event was done the rack is sound
+pub run-sound : (r : Rack) (n : ℕ) (es : List ℕ) (q : Ran) → q ≡ runOf r n es → (q .done ≡ 0 → ⊥) → soundOf (q .rack) ≡ true
+unfolding runOf
+run-sound r n es q e d = ap (λ (k : Ran). soundOf (k .rack)) e ∙ go (soundOf r) refl
+  where
+    none : (a b : Bool) → cond a (ranOf 0 0 r) (cond b (ranOf 0 0 r) (ranOf 0 2 r)) .done ≡ 0
+    none true b = refl
+    none false true = refl
+    none false false = refl
+
+    go : (t : Bool) → soundOf r ≡ t → soundOf (runOf r n es .rack) ≡ true
+    go true s = run-stays r n es s
+    go false s =
+        let z : runOf r n es .done ≡ 0 = rw s (none (eqb n 0) (ltb (length es) 4)) in
+        absurd (d (ap (λ (k : Ran). k .done) e ∙ z))

@@ -1,0 +1,4 @@
+-- Laws that belong to no one function.
+mod Reading
+mod Writing
+mod Calls

@@ -1,0 +1,56 @@
+-- `words::pair_at` meets its contract.
+use Rattle.words.proofs.Reading.{signed-held}
+use Rattle.words.specs.Reading.{pairIn}
+use borrow.Author.Needs.{needs}
+use Rattle.words.proofs.pair_at.Statement.{statement}
+use Rattle.words.proofs.pair_at.Tie as tie
+
+add-byte : tie.Need-add-byte
+add-byte c = search needs
+
+mul-byte : tie.Need-mul-byte
+mul-byte c = search needs
+
+shared-slice-read-byte : tie.Need-shared-slice-read-byte
+shared-slice-read-byte c = search needs
+
+byte-requires : tie.Need-byte-requires
+byte-requires c κs = search needs
+
+add-signed : tie.Need-add-signed
+add-signed c = search needs
+
+mul-signed : tie.Need-mul-signed
+mul-signed c = search needs
+
+shared-slice-read-signed : tie.Need-shared-slice-read-signed
+shared-slice-read-signed c = search needs
+
+signed-requires : tie.Need-signed-requires
+signed-requires c κs = search needs
+
+mul-t6 : tie.Need-mul-t6
+mul-t6 c = search needs
+
+shared-slice-read-t9 : tie.Need-shared-slice-read-t9
+shared-slice-read-t9 c = search needs
+
+returns : tie.Need-returns
+unfolding pairIn
+returns c = rw (signed-held (c .before .signed .result) _ (c .before .before .shared-slice-known3 .given _ .fits) (c .before .signed .ensures), c .before .before .before .byte .ensures)
+
+pub pair-at-spec : {M : Type 1} → statement M
+pair-at-spec =
+    tie.close
+    (tie.spec
+    add-byte
+    mul-byte
+    shared-slice-read-byte
+    byte-requires
+    add-signed
+    mul-signed
+    shared-slice-read-signed
+    signed-requires
+    mul-t6
+    shared-slice-read-t9
+    returns)

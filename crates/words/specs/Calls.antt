@@ -1,0 +1,39 @@
+-- What the calls answer and leave.
+use Prim.Native.Nat.{ℕ}
+use mathlib.Core.List.{List}
+use mathlib.Core.Bool.{cond}
+use lib.Dec.{eqb}
+use lib.ListN.{length, replicate}
+use Rattle.rack.specs.declared.Made.{Made}
+use Rattle.rack.specs.declared.Ran.{Ran}
+use Rattle.rack.specs.Run.{madeOf, runOf}
+use Rattle.words.specs.declared.Answer.{Answer}
+use Rattle.words.specs.Layout.{wordCount}
+use Rattle.words.specs.Reading.{rackOf}
+use Rattle.words.specs.Writing.{writtenOf}
+
+-- what a call answers, and what then stands in the lent words
+pub record Outcome : Type 0 where
+  pub answer : Answer
+  pub lent : List ℕ
+
+abbrev pub answerOf : ℕ → ℕ → Answer
+answerOf done refusal = record { done = done; refusal = refusal }
+
+-- 20: the lent words are not 11,301; nothing is written
+abbrev pub unfit : List ℕ → Outcome
+unfit ws = record { answer = answerOf 0 20; lent = ws }
+
+-- the maker's rack is written, also beside its refusal, and every other word is 0
+unfoldable pub makes : Made → Outcome
+makes m = record { answer = answerOf 0 (m .refusal); lent = writtenOf (m .rack) (replicate wordCount 0) }
+
+unfoldable pub madeOutcome : ℕ → ℕ → ℕ → List ℕ → Outcome
+madeOutcome replicas clients cells ws = cond (eqb (length ws) wordCount) (makes (madeOf replicas clients cells)) (unfit ws)
+
+-- the rack that is left is written where an event was done; else every word stays
+unfoldable pub leaves : Ran → List ℕ → Outcome
+leaves q ws = record { answer = answerOf (q .done) (q .refusal); lent = cond (eqb (q .done) 0) ws (writtenOf (q .rack) ws) }
+
+unfoldable pub runOutcome : List ℕ → ℕ → List ℕ → Outcome
+runOutcome ws allowance es = cond (eqb (length ws) wordCount) (leaves (runOf (rackOf ws) allowance es) ws) (unfit ws)

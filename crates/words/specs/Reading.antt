@@ -1,0 +1,150 @@
+-- The rack of any 11,301 words. Words that are no state (a phase 3, a body 4, an operation number above 65,535, ..) give an unsound rack.
+use Prim.Native.Nat.{ℕ, _+_, min}
+use mathlib.Core.List.{List, _++_}
+use mathlib.Core.Bool.{Bool, false, cond, _&&_, _||_, not}
+use lib.Dec.{ltb, eqb}
+use lib.ListN.{drop, replicate}
+use Rattle.number.specs.Value.{signedOf}
+use Rattle.record.specs.declared.Entry.the-variants.{Done}
+use Rattle.record.specs.Entry.{entryOf}
+use Rattle.record.specs.Record.{entryLimit}
+use Rattle.plan.specs.declared.Pair.{Pair}
+use Rattle.plan.specs.declared.Body.{Body}
+use Rattle.plan.specs.declared.Body.the-variants.{Ask, Tell, Keep, Kept}
+use Rattle.plan.specs.declared.Held.{Held}
+use Rattle.plan.specs.declared.Held.the-variants.{Empty, Full}
+use Rattle.rack.specs.declared.Slot.{Slot}
+use Rattle.plan.specs.declared.Goal.{Goal}
+use Rattle.plan.specs.declared.Goal.the-variants.{Read, Write}
+use Rattle.plan.specs.declared.Work.{Work}
+use Rattle.plan.specs.declared.Work.the-variants.{Idle, Asking, Keeping}
+use Rattle.plan.specs.declared.Party.{Party}
+use Rattle.rack.specs.declared.Line.{Line}
+use Rattle.rack.specs.declared.Sizes.{Sizes}
+use Rattle.rack.specs.declared.Rack.{Rack}
+use Rattle.plan.specs.Stamp.{freshPair}
+use Rattle.rack.specs.Sound.{allBelow}
+use Rattle.words.specs.Layout.{partyPlace, pairPlace, slotPlace, entryPlace, word, firsts}
+
+-- a number that a byte or 16 bits can't hold is read as their greatest, which no rack has
+unfoldable pub byteOf : ℕ → ℕ
+byteOf w = cond (ltb w 256) w 255
+
+unfoldable pub setOf : ℕ → ℕ
+setOf w = cond (ltb w 65536) w 65535
+
+-- the pair at a place
+unfoldable pub pairIn : List ℕ → ℕ → Pair
+pairIn ws at = record { stamp = record { number = word ws at; rank = byteOf (word ws (at + 1)) }; value = signedOf (word ws (at + 2)) }
+
+-- ---- clients
+
+unfoldable pub goalOf : ℕ → ℕ → Goal
+goalOf goal value = cond (eqb goal 0) Read (Write (signedOf value))
+
+-- an open operation, by its phase
+unfoldable pub workOf : ℕ → ℕ → Goal → ℕ → Pair → Work
+workOf phase cell goal set held =
+    cond (eqb phase 1) (Asking (record { 0 = byteOf cell }) goal (setOf set) held) (Keeping (record { 0 = byteOf cell }) goal (setOf set) held)
+
+-- at the place of a client's phase
+unfoldable pub workIn : List ℕ → ℕ → Work
+workIn ws at =
+    cond (eqb (word ws at) 0) Idle
+    (workOf (word ws at) (word ws (at + 1)) (goalOf (word ws (at + 2)) (word ws (at + 3))) (word ws (at + 4)) (pairIn ws (at + 5)))
+
+-- stopped is 0 or 1, the operation number at most 65,535, the phase at most 2, and the goal of an open operation 0 or 1
+unfoldable pub partyKnown : ℕ → ℕ → ℕ → ℕ → Bool
+partyKnown stopped op phase goal = (ltb stopped 2 && ltb op 65536) && (ltb phase 3 && (eqb phase 0 || ltb goal 2))
+
+-- no rack has cell 255
+abbrev pub strayParty : Party
+strayParty = record { stopped = false; op = 0; work = Keeping (record { 0 = 255 }) Read 0 freshPair }
+
+unfoldable pub partyIn : List ℕ → ℕ → Party
+partyIn ws at =
+    cond (partyKnown (word ws at) (word ws (at + 1)) (word ws (at + 2)) (word ws (at + 4)))
+    (record { stopped = eqb (word ws at) 1; op = word ws (at + 1); work = workIn ws (at + 2) })
+    strayParty
+
+-- ---- slots
+
+unfoldable pub bodyOf : ℕ → Pair → Body
+bodyOf body pair = cond (eqb body 0) Ask (cond (eqb body 1) (Tell pair) (cond (eqb body 2) (Keep pair) Kept))
+
+-- a full slot is marked 1, its body is at most 3 and its operation number at most 65,535
+unfoldable pub messageKnown : ℕ → ℕ → ℕ → Bool
+messageKnown mark body op = eqb mark 1 && (ltb body 4 && ltb op 65536)
+
+-- no rack has client 255
+abbrev pub strayHeld : Held
+strayHeld = Full (record { client = record { 0 = 255 }; replica = record { 0 = 0 }; cell = record { 0 = 0 }; op = 0; body = Ask })
+
+unfoldable pub fullIn : List ℕ → ℕ → Held
+fullIn ws at =
+    Full (record {
+      client = record { 0 = byteOf (word ws (at + 2)) };
+      replica = record { 0 = byteOf (word ws (at + 3)) };
+      cell = record { 0 = byteOf (word ws (at + 4)) };
+      op = word ws (at + 5);
+      body = bodyOf (word ws (at + 1)) (pairIn ws (at + 6));
+    })
+
+unfoldable pub heldOf : List ℕ → ℕ → Held
+heldOf ws at =
+    cond (eqb (word ws at) 0) Empty (cond (messageKnown (word ws at) (word ws (at + 1)) (word ws (at + 5))) (fullIn ws at) strayHeld)
+
+unfoldable pub slotIn : List ℕ → ℕ → Slot
+slotIn ws at = record { held = heldOf ws at }
+
+-- ---- entries
+
+unfoldable pub lineIn : List ℕ → ℕ → Line
+lineIn ws at = record { entry = entryOf (word ws at) (byteOf (word ws (at + 1))) (byteOf (word ws (at + 2))) (word ws (at + 3)) }
+
+-- the kind is at most 3, the client at most 7, and the cell of an entry that has one at most 15
+unfoldable pub entryKnown : ℕ → ℕ → ℕ → Bool
+entryKnown kind client cell = ltb kind 4 && (ltb client 8 && (not (ltb kind 2) || ltb cell 16))
+
+unfoldable pub lineKnown : List ℕ → ℕ → Bool
+lineKnown ws at = entryKnown (word ws at) (word ws (at + 1)) (word ws (at + 2))
+
+-- beyond the count stands what stands in a fresh rack
+abbrev pub blank : Line
+blank = record { entry = Done (record { 0 = 0 }) }
+
+unfoldable pub linesIn : ℕ → List ℕ → List Line
+linesIn n ws = firsts n (λ i. lineIn ws (entryPlace i)) ++ drop n (replicate entryLimit blank)
+
+-- how many entries there are to look at; a count that is no count is 2,049, more than a record holds
+unfoldable pub countOf : List ℕ → ℕ
+countOf ws = min (word ws 4) entryLimit
+
+unfoldable pub countIn : List ℕ → ℕ
+countIn ws = cond (ltb entryLimit (word ws 4) || not (allBelow (countOf ws) (λ i. lineKnown ws (entryPlace i)))) 2049 (word ws 4)
+
+-- ---- the rack
+
+-- fifteen bits of power; with more of them there are 255 replicas, which no rack has
+unfoldable pub powerOf : ℕ → ℕ
+powerOf w = cond (ltb w 32768) w 0
+
+unfoldable pub sizesIn : List ℕ → Sizes
+sizesIn ws =
+    record {
+      replicas = cond (ltb (word ws 3) 32768) (byteOf (word ws 0)) 255;
+      clients = byteOf (word ws 1);
+      cells = byteOf (word ws 2);
+    }
+
+unfoldable pub rackOf : List ℕ → Rack
+rackOf ws =
+    record {
+      sizes = sizesIn ws;
+      power = powerOf (word ws 3);
+      count = countIn ws;
+      parties = firsts 8 (λ i. partyIn ws (partyPlace i));
+      pairs = firsts 240 (λ i. pairIn ws (pairPlace i));
+      wire = firsts 256 (λ i. slotIn ws (slotPlace i));
+      lines = linesIn (countOf ws) ws;
+    }

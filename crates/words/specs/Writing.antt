@@ -1,0 +1,108 @@
+-- The words of a rack. Only clients and pairs within the sizes and entries below the count are written; the others stay as they are.
+use Prim.Native.Nat.{ℕ, zero, suc, _*_, _%_}
+use mathlib.Core.List.{List, [], _∷_, _++_}
+use mathlib.Core.Bool.{Bool, true, false, cond}
+use lib.Dec.{ltb, eqb}
+use lib.ListN.{getD, replicate}
+use lib.Seq.{sets}
+use Rattle.number.specs.Value.{alternatingOf}
+use Rattle.record.specs.declared.Cell.{Cell}
+use Rattle.record.specs.declared.Entry.{Entry}
+use Rattle.record.specs.declared.Entry.the-variants.{ReadAsked}
+use Rattle.record.specs.Entry.{rowOf}
+use Rattle.plan.specs.declared.Pair.{Pair}
+use Rattle.plan.specs.declared.Body.{Body}
+use Rattle.plan.specs.declared.Body.the-variants.{Ask, Tell, Keep, Kept}
+use Rattle.plan.specs.declared.Held.{Held}
+use Rattle.plan.specs.declared.Held.the-variants.{Empty, Full}
+use Rattle.plan.specs.declared.Goal.{Goal}
+use Rattle.plan.specs.declared.Goal.the-variants.{Read, Write}
+use Rattle.plan.specs.declared.Work.{Work}
+use Rattle.plan.specs.declared.Work.the-variants.{Idle, Asking, Keeping}
+use Rattle.plan.specs.declared.Party.{Party}
+use Rattle.rack.specs.declared.Line.{Line}
+use Rattle.rack.specs.declared.Rack.{Rack}
+use Rattle.plan.specs.Stamp.{freshPair}
+use Rattle.rack.specs.Places.{partyAt, heldAt}
+use Rattle.words.specs.Layout.{partyPlace, pairPlace, slotPlace, entryPlace}
+
+unfoldable pub pairWords : Pair → List ℕ
+pairWords p = p .stamp .number ∷ p .stamp .rank ∷ alternatingOf (p .value) ∷ []
+
+abbrev pub noPair : List ℕ
+noPair = 0 ∷ 0 ∷ 0 ∷ []
+
+-- ---- clients
+
+-- nothing is held while the set of the ask phase is empty
+unfoldable pub toldWords : ℕ → Pair → List ℕ
+toldWords set held = cond (eqb set 0) noPair (pairWords held)
+
+-- an open operation but what it holds
+unfoldable pub openWords : ℕ → Cell → Goal → ℕ → List ℕ
+openWords phase cell Read set = phase ∷ cell .0 ∷ 0 ∷ 0 ∷ set ∷ []
+openWords phase cell (Write v) set = phase ∷ cell .0 ∷ 1 ∷ alternatingOf v ∷ set ∷ []
+
+unfoldable pub workWords : Work → List ℕ
+workWords Idle = replicate 8 0
+workWords (Asking cell goal set held) = openWords 1 cell goal set ++ toldWords set held
+workWords (Keeping cell goal set held) = openWords 2 cell goal set ++ pairWords held
+
+unfoldable pub flag : Bool → ℕ
+flag true = 1
+flag false = 0
+
+unfoldable pub partyWords : Party → List ℕ
+partyWords p = (flag (p .stopped) ∷ p .op ∷ []) ++ workWords (p .work)
+
+-- ---- slots
+
+unfoldable pub bodyKind : Body → ℕ
+bodyKind Ask = 0
+bodyKind (Tell p) = 1
+bodyKind (Keep p) = 2
+bodyKind Kept = 3
+
+unfoldable pub bodyWords : Body → List ℕ
+bodyWords Ask = noPair
+bodyWords (Tell p) = pairWords p
+bodyWords (Keep p) = pairWords p
+bodyWords Kept = noPair
+
+unfoldable pub slotWords : Held → List ℕ
+slotWords Empty = replicate 9 0
+slotWords (Full m) = (1 ∷ bodyKind (m .body) ∷ m .client .0 ∷ m .replica .0 ∷ m .cell .0 ∷ m .op ∷ []) ++ bodyWords (m .body)
+
+-- ---- the rack
+
+-- f 0, f 1, .. up to f (n - 1), each at its place
+unfoldable pub putFirsts : ℕ → (ℕ → ℕ) → (ℕ → List ℕ) → List ℕ → List ℕ
+putFirsts zero place f ws = ws
+putFirsts (suc n) place f ws = sets (putFirsts n place f ws) (place n) (f n)
+
+unfoldable pub headOf : Rack → List ℕ → List ℕ
+headOf r ws = sets ws 0 (r .sizes .replicas ∷ r .sizes .clients ∷ r .sizes .cells ∷ r .power ∷ r .count ∷ [])
+
+unfoldable pub partiesPut : Rack → List ℕ → List ℕ
+partiesPut r ws = putFirsts (r .sizes .clients) partyPlace (λ i. partyWords (partyAt r i)) ws
+
+-- a pair of a cell that the rack hasn't got is not written
+unfoldable pub pairWritten : ℕ → ℕ → Pair → List ℕ
+pairWritten cells i p = cond (ltb (i % 16) cells) (pairWords p) []
+
+unfoldable pub pairsPut : Rack → List ℕ → List ℕ
+pairsPut r ws = putFirsts (16 * r .sizes .replicas) pairPlace (λ i. pairWritten (r .sizes .cells) i (getD (r .pairs) i freshPair)) ws
+
+unfoldable pub wirePut : Rack → List ℕ → List ℕ
+wirePut r ws = putFirsts 256 slotPlace (λ i. slotWords (heldAt r i)) ws
+
+-- entry i of the record; past the end of the array, where no count leads, a read
+abbrev pub entryIn : List Line → ℕ → Entry
+entryIn lines i = getD lines i (record { entry = ReadAsked (record { 0 = 0 }) (record { 0 = 0 }) }) .entry
+
+unfoldable pub recordPut : Rack → List ℕ → List ℕ
+recordPut r ws = putFirsts (r .count) entryPlace (λ i. rowOf (entryIn (r .lines) i)) ws
+
+-- what stands in the words ws after the rack is written
+unfoldable pub writtenOf : Rack → List ℕ → List ℕ
+writtenOf r ws = recordPut r (wirePut r (pairsPut r (partiesPut r (headOf r ws))))

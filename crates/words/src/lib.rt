@@ -1,0 +1,808 @@
+// A rack in lent memory: 11,301 words of 32 bits, laid out as specs/Layout says, and schedules run on it.
+ghost use mathlib.Core.Path.{_≡_};
+ghost use mathlib.Core.Bool.{true, cond};
+ghost use Prim.Native.Nat.{_+_, _*_, _≤_, _<_};
+ghost use lib.ListN.{length, getD, replicate};
+ghost use lib.Seq.{sets};
+ghost use lib.Dec.{ltb};
+ghost use Rattle.record.specs.Entry.{entryOf, rowOf};
+ghost use Rattle.plan.specs.Stamp.{freshPair};
+ghost use Rattle.rack.specs.Places.{idle, heldIn};
+ghost use Rattle.rack.specs.Sound.{allBelow, soundOf};
+ghost use Rattle.words.specs.Layout.{wordCount, partyPlace, pairPlace, slotPlace, entryPlace, firsts};
+ghost use Rattle.words.specs.Reading.{byteOf, setOf, pairIn, goalOf, workOf, workIn, partyKnown, strayParty, partyIn, bodyOf, messageKnown, strayHeld, fullIn, heldOf, slotIn, entryKnown, lineKnown, lineIn, linesIn, countOf, countIn, powerOf, sizesIn, rackOf};
+ghost use Rattle.words.specs.Writing.{pairWords, noPair, openWords, toldWords, workWords, flag, partyWords, bodyKind, bodyWords, slotWords, putFirsts, headOf, partiesPut, pairWritten, pairsPut, entryIn, writtenOf};
+ghost use Rattle.words.specs.Calls.{madeOutcome, runOutcome};
+use plan::Body;
+use plan::Goal;
+use plan::Held;
+use rack::Line;
+use plan::Message;
+use plan::Pair;
+use plan::Party;
+use rack::Rack;
+use rack::Sizes;
+use rack::Slot;
+use plan::Stamp;
+use plan::Work;
+use record::Cell;
+use record::Client;
+use record::Entry;
+use record::Replica;
+
+// How many words a rack takes.
+pub const WORDS: usize = 11301;
+
+// What a call answers: how many events were done, and the refusal, 0 for none.
+pub struct Answer {
+    pub done: usize,
+    pub refusal: u8,
+}
+
+// ---- reading
+
+// A number that a byte can't hold is 255, which no rack has.
+fn byte(word: u32) -> u8
+    ensures { λ r. ⌜ r ≡ byteOf word ⌝ }
+{
+    if word < 256 {
+        return word as u8;
+    }
+    255
+}
+
+fn set_of(word: u32) -> u16
+    ensures { λ r. ⌜ r ≡ setOf word ⌝ }
+{
+    if word < 65536 {
+        return word as u16;
+    }
+    65535
+}
+
+fn pair_at(words: &[u32], at: usize) -> Pair
+    requires { ⌜ at + 3 ≤ length (now words) ⌝ }
+    ensures { λ r. ⌜ r ≡ pairIn (now (words .entry)) at ⌝ }
+{
+    let rank = byte(words[at + 1]);
+    let value = number::signed(words[at + 2]);
+    let stamp = Stamp {
+        number: words[at],
+        rank: rank,
+    };
+    Pair {
+        stamp: stamp,
+        value: value,
+    }
+}
+
+fn goal_of(goal: u32, value: u32) -> Goal
+    ensures { λ r. ⌜ r ≡ goalOf goal value ⌝ }
+{
+    if goal == 0 {
+        return Goal::Read;
+    }
+    let v = number::signed(value);
+    Goal::Write(v)
+}
+
+fn work_of(phase: u32, cell: u32, goal: Goal, set: u32, held: Pair) -> Work
+    ensures { λ r. ⌜ r ≡ workOf phase cell goal set held ⌝ }
+{
+    let x = byte(cell);
+    let s = set_of(set);
+    if phase == 1 {
+        return Work::Asking {
+            cell: Cell(x),
+            goal: goal,
+            set: s,
+            held: held,
+        };
+    }
+    Work::Keeping {
+        cell: Cell(x),
+        goal: goal,
+        set: s,
+        held: held,
+    }
+}
+
+fn work_at(words: &[u32], at: usize) -> Work
+    requires { ⌜ at + 8 ≤ length (now words) ⌝ }
+    ensures { λ r. ⌜ r ≡ workIn (now (words .entry)) at ⌝ }
+{
+    if words[at] == 0 {
+        return Work::Idle;
+    }
+    let goal = goal_of(words[at + 2], words[at + 3]);
+    let held = pair_at(words, at + 5);
+    work_of(words[at], words[at + 1], goal, words[at + 4], held)
+}
+
+fn party_known(stopped: u32, op: u32, phase: u32, goal: u32) -> bool
+    ensures { λ r. ⌜ r ≡ partyKnown stopped op phase goal ⌝ }
+{
+    if 1 < stopped {
+        return false;
+    }
+    if 65535 < op {
+        return false;
+    }
+    if 2 < phase {
+        return false;
+    }
+    if phase == 0 {
+        return true;
+    }
+    goal < 2
+}
+
+// A client that no rack has: words that are none are read as it.
+fn stray_party() -> Party
+    ensures { λ r. ⌜ r ≡ strayParty ⌝ }
+{
+    let stamp = Stamp { number: 0, rank: 0 };
+    let held = Pair {
+        stamp: stamp,
+        value: 0,
+    };
+    let work = Work::Keeping {
+        cell: Cell(255),
+        goal: Goal::Read,
+        set: 0,
+        held: held,
+    };
+    Party {
+        stopped: false,
+        op: 0,
+        work: work,
+    }
+}
+
+fn party_at(words: &[u32], at: usize) -> Party
+    requires { ⌜ at + 10 ≤ length (now words) ⌝ }
+    ensures { λ r. ⌜ r ≡ partyIn (now (words .entry)) at ⌝ }
+{
+    if party_known(words[at], words[at + 1], words[at + 2], words[at + 4]) {
+        let work = work_at(words, at + 2);
+        return Party {
+            stopped: words[at] == 1,
+            op: words[at + 1] as u16,
+            work: work,
+        };
+    }
+    stray_party()
+}
+
+fn body_of(body: u32, pair: Pair) -> Body
+    ensures { λ r. ⌜ r ≡ bodyOf body pair ⌝ }
+{
+    if body == 0 {
+        return Body::Ask;
+    }
+    if body == 1 {
+        return Body::Tell(pair);
+    }
+    if body == 2 {
+        return Body::Keep(pair);
+    }
+    Body::Kept
+}
+
+fn message_known(mark: u32, body: u32, op: u32) -> bool
+    ensures { λ r. ⌜ r ≡ messageKnown mark body op ⌝ }
+{
+    if mark != 1 {
+        return false;
+    }
+    if 3 < body {
+        return false;
+    }
+    op < 65536
+}
+
+// A message that no rack has: words that are none are read as it.
+fn stray_held() -> Held
+    ensures { λ r. ⌜ r ≡ strayHeld ⌝ }
+{
+    Held::Full(Message {
+        client: Client(255),
+        replica: Replica(0),
+        cell: Cell(0),
+        op: 0,
+        body: Body::Ask,
+    })
+}
+
+fn full_at(words: &[u32], at: usize) -> Held
+    requires { ⌜ (at + 9 ≤ length (now words)) × (getD (now words) (at + 5) 0 < 65536) ⌝ }
+    ensures { λ r. ⌜ r ≡ fullIn (now (words .entry)) at ⌝ }
+{
+    let client = byte(words[at + 2]);
+    let replica = byte(words[at + 3]);
+    let cell = byte(words[at + 4]);
+    let pair = pair_at(words, at + 6);
+    let body = body_of(words[at + 1], pair);
+    Held::Full(Message {
+        client: Client(client),
+        replica: Replica(replica),
+        cell: Cell(cell),
+        op: words[at + 5] as u16,
+        body: body,
+    })
+}
+
+fn held_at(words: &[u32], at: usize) -> Held
+    requires { ⌜ at + 9 ≤ length (now words) ⌝ }
+    ensures { λ r. ⌜ r ≡ heldOf (now (words .entry)) at ⌝ }
+{
+    if words[at] == 0 {
+        return Held::Empty;
+    }
+    if message_known(words[at], words[at + 1], words[at + 5]) {
+        return full_at(words, at);
+    }
+    stray_held()
+}
+
+fn entry_of(kind: u32, client: u8, cell: u8, value: u32) -> Entry
+    ensures { λ r. ⌜ r ≡ entryOf kind client cell value ⌝ }
+{
+    if kind == 0 {
+        return Entry::ReadAsked(Client(client), Cell(cell));
+    }
+    let v = number::signed(value);
+    if kind == 1 {
+        return Entry::WriteAsked(Client(client), Cell(cell), v);
+    }
+    if kind == 2 {
+        return Entry::Told(Client(client), v);
+    }
+    Entry::Done(Client(client))
+}
+
+fn line_at(words: &[u32], at: usize) -> Line
+    requires { ⌜ at + 4 ≤ length (now words) ⌝ }
+    ensures { λ r. ⌜ r ≡ lineIn (now (words .entry)) at ⌝ }
+{
+    let client = byte(words[at + 1]);
+    let cell = byte(words[at + 2]);
+    let entry = entry_of(words[at], client, cell, words[at + 3]);
+    Line { entry: entry }
+}
+
+fn entry_known(kind: u32, client: u32, cell: u32) -> bool
+    ensures { λ r. ⌜ r ≡ entryKnown kind client cell ⌝ }
+{
+    if 3 < kind {
+        return false;
+    }
+    if 7 < client {
+        return false;
+    }
+    if 1 < kind {
+        return true;
+    }
+    cell < 16
+}
+
+// ---- reading each part
+
+fn parties_of(words: &[u32]) -> [Party; 8]
+    requires { ⌜ length (now words) ≡ wordCount ⌝ }
+    ensures { λ r. ⌜ r ≡ firsts 8 (λ i. partyIn (now (words .entry)) (partyPlace i)) ⌝ }
+{
+    let stray = stray_party();
+    let mut parties = [stray; 8];
+    let mut i: usize = 0;
+    while i < 8 {
+        let party = party_at(words, 5 + 10 * i);
+        parties[i] = party;
+        i += 1;
+    }
+    parties
+}
+
+fn pairs_of(words: &[u32]) -> [Pair; 240]
+    requires { ⌜ length (now words) ≡ wordCount ⌝ }
+    ensures { λ r. ⌜ r ≡ firsts 240 (λ i. pairIn (now (words .entry)) (pairPlace i)) ⌝ }
+{
+    let stamp = Stamp { number: 0, rank: 0 };
+    let fresh = Pair {
+        stamp: stamp,
+        value: 0,
+    };
+    let mut pairs = [fresh; 240];
+    let mut i: usize = 0;
+    while i < 240 {
+        let pair = pair_at(words, 85 + 3 * i);
+        pairs[i] = pair;
+        i += 1;
+    }
+    pairs
+}
+
+fn slot_at(words: &[u32], at: usize) -> Slot
+    requires { ⌜ at + 9 ≤ length (now words) ⌝ }
+    ensures { λ r. ⌜ r ≡ slotIn (now (words .entry)) at ⌝ }
+{
+    let held = held_at(words, at);
+    Slot { held: held }
+}
+
+fn wire_of(words: &[u32]) -> [Slot; 256]
+    requires { ⌜ length (now words) ≡ wordCount ⌝ }
+    ensures { λ r. ⌜ r ≡ firsts 256 (λ i. slotIn (now (words .entry)) (slotPlace i)) ⌝ }
+{
+    let nothing = Held::Empty;
+    let empty = Slot { held: nothing };
+    let mut wire = [empty; 256];
+    let mut i: usize = 0;
+    while i < 256 {
+        let slot = slot_at(words, 805 + 9 * i);
+        wire[i] = slot;
+        i += 1;
+    }
+    wire
+}
+
+fn lines_of(words: &[u32], n: usize) -> [Line; 2048]
+    requires { ⌜ (length (now words) ≡ wordCount) × (n ≤ 2048) ⌝ }
+    ensures { λ r. ⌜ r ≡ linesIn n (now (words .entry)) ⌝ }
+{
+    let entry = Entry::Done(Client(0));
+    let line = Line { entry: entry };
+    let mut lines = [line; 2048];
+    let mut i: usize = 0;
+    while i < n {
+        let next = line_at(words, 3109 + 4 * i);
+        lines[i] = next;
+        i += 1;
+    }
+    lines
+}
+
+fn lines_known(words: &[u32], n: usize) -> bool
+    requires { ⌜ (length (now words) ≡ wordCount) × (n ≤ 2048) ⌝ }
+    ensures { λ r. ⌜ r ≡ allBelow n (λ i. lineKnown (now (words .entry)) (entryPlace i)) ⌝ }
+{
+    let mut i: usize = 0;
+    while i < n {
+        let at = 3109 + 4 * i;
+        if !entry_known(words[at], words[at + 1], words[at + 2]) {
+            return false;
+        }
+        i += 1;
+    }
+    true
+}
+
+// How many entries there are to look at.
+fn count_of(words: &[u32]) -> usize
+    requires { ⌜ length (now words) ≡ wordCount ⌝ }
+    ensures { λ r. ⌜ (r ≡ countOf (now (words .entry))) × (r ≤ 2048) ⌝ }
+{
+    if words[4] <= 2048 {
+        return words[4] as usize;
+    }
+    2048
+}
+
+// A count that is no count is one more than a record holds.
+fn count_in(words: &[u32], n: usize) -> usize
+    requires { ⌜ (length (now words) ≡ wordCount) × ((n ≡ countOf (now words)) × (n ≤ 2048)) ⌝ }
+    ensures { λ r. ⌜ r ≡ countIn (now (words .entry)) ⌝ }
+{
+    if 2048 < words[4] {
+        return 2049;
+    }
+    if !lines_known(words, n) {
+        return 2049;
+    }
+    words[4] as usize
+}
+
+fn power_of(word: u32) -> u16
+    ensures { λ r. ⌜ r ≡ powerOf word ⌝ }
+{
+    if word < 32768 {
+        return word as u16;
+    }
+    0
+}
+
+fn replicas_of(replicas: u32, power: u32) -> u8
+    ensures { λ r. ⌜ r ≡ cond (ltb power 32768) (byteOf replicas) 255 ⌝ }
+{
+    if power < 32768 {
+        return byte(replicas);
+    }
+    255
+}
+
+fn sizes_of(words: &[u32]) -> Sizes
+    requires { ⌜ length (now words) ≡ wordCount ⌝ }
+    ensures { λ r. ⌜ r ≡ sizesIn (now (words .entry)) ⌝ }
+{
+    let replicas = replicas_of(words[0], words[3]);
+    let clients = byte(words[1]);
+    let cells = byte(words[2]);
+    Sizes {
+        replicas: replicas,
+        clients: clients,
+        cells: cells,
+    }
+}
+
+// The rack of the words.
+fn load(words: &[u32]) -> Rack
+    requires { ⌜ length (now words) ≡ wordCount ⌝ }
+    ensures { λ r. ⌜ r ≡ rackOf (now (words .entry)) ⌝ }
+{
+    let sizes = sizes_of(words);
+    let power = power_of(words[3]);
+    let n = count_of(words);
+    let count = count_in(words, n);
+    let parties = parties_of(words);
+    let pairs = pairs_of(words);
+    let wire = wire_of(words);
+    let lines = lines_of(words, n);
+    Rack {
+        sizes: sizes,
+        power: power,
+        count: count,
+        parties: parties,
+        pairs: pairs,
+        wire: wire,
+        lines: lines,
+    }
+}
+
+// ---- writing
+
+// Some words, one after another.
+fn put(words: &mut [u32], at: usize, new: &[u32])
+    requires { ⌜ at + length (now new) ≤ length (now words) ⌝ }
+    ensures { λ r. ⌜ now (words .exit) ≡ sets (now (words .entry)) at (now (new .entry)) ⌝ }
+{
+    let mut i: usize = 0;
+    while i < new.len() {
+        words[at + i] = new[i];
+        i += 1;
+    }
+}
+
+fn put_pair(words: &mut [u32], at: usize, pair: Pair)
+    requires { ⌜ at + 3 ≤ length (now words) ⌝ }
+    ensures { λ r. ⌜ now (words .exit) ≡ sets (now (words .entry)) at (pairWords pair) ⌝ }
+{
+    let stamp = pair.stamp;
+    let three = [
+        stamp.number,
+        stamp.rank as u32,
+        number::alternating(pair.value),
+    ];
+    put(words, at, &three);
+}
+
+fn put_no_pair(words: &mut [u32], at: usize)
+    requires { ⌜ at + 3 ≤ length (now words) ⌝ }
+    ensures { λ r. ⌜ now (words .exit) ≡ sets (now (words .entry)) at noPair ⌝ }
+{
+    let three = [0u32, 0, 0];
+    put(words, at, &three);
+}
+
+fn put_open(words: &mut [u32], at: usize, phase: u32, cell: Cell, goal: Goal, set: u16)
+    requires { ⌜ at + 5 ≤ length (now words) ⌝ }
+    ensures { λ r. ⌜ now (words .exit) ≡ sets (now (words .entry)) at (openWords phase cell goal set) ⌝ }
+{
+    match goal {
+        Goal::Read => {
+            let five = [phase, cell.0 as u32, 0, 0, set as u32];
+            put(words, at, &five)
+        }
+        Goal::Write(v) => {
+            let five = [phase, cell.0 as u32, 1, number::alternating(v), set as u32];
+            put(words, at, &five)
+        }
+    }
+}
+
+fn put_told(words: &mut [u32], at: usize, set: u16, held: Pair)
+    requires { ⌜ at + 3 ≤ length (now words) ⌝ }
+    ensures { λ r. ⌜ now (words .exit) ≡ sets (now (words .entry)) at (toldWords set held) ⌝ }
+{
+    if set == 0 {
+        return put_no_pair(words, at);
+    }
+    put_pair(words, at, held)
+}
+
+fn put_work(words: &mut [u32], at: usize, work: Work)
+    requires { ⌜ at + 8 ≤ length (now words) ⌝ }
+    ensures { λ r. ⌜ now (words .exit) ≡ sets (now (words .entry)) at (workWords work) ⌝ }
+{
+    match work {
+        Work::Idle => {
+            let eight = [0u32; 8];
+            put(words, at, &eight)
+        }
+        Work::Asking {
+            cell,
+            goal,
+            set,
+            held,
+        } => {
+            put_open(words, at, 1, cell, goal, set);
+            put_told(words, at + 5, set, held)
+        }
+        Work::Keeping {
+            cell,
+            goal,
+            set,
+            held,
+        } => {
+            put_open(words, at, 2, cell, goal, set);
+            put_pair(words, at + 5, held)
+        }
+    }
+}
+
+fn flag(b: bool) -> u32
+    ensures { λ r. ⌜ r ≡ flag b ⌝ }
+{
+    if b {
+        return 1;
+    }
+    0
+}
+
+fn put_party(words: &mut [u32], at: usize, party: Party)
+    requires { ⌜ at + 10 ≤ length (now words) ⌝ }
+    ensures { λ r. ⌜ now (words .exit) ≡ sets (now (words .entry)) at (partyWords party) ⌝ }
+{
+    let two = [flag(party.stopped), party.op as u32];
+    put(words, at, &two);
+    let work = party.work;
+    put_work(words, at + 2, work)
+}
+
+fn body_kind(body: Body) -> u32
+    ensures { λ r. ⌜ r ≡ bodyKind body ⌝ }
+{
+    match body {
+        Body::Ask => 0,
+        Body::Tell(_) => 1,
+        Body::Keep(_) => 2,
+        Body::Kept => 3,
+    }
+}
+
+fn put_body(words: &mut [u32], at: usize, body: Body)
+    requires { ⌜ at + 3 ≤ length (now words) ⌝ }
+    ensures { λ r. ⌜ now (words .exit) ≡ sets (now (words .entry)) at (bodyWords body) ⌝ }
+{
+    match body {
+        Body::Ask => put_no_pair(words, at),
+        Body::Tell(pair) => put_pair(words, at, pair),
+        Body::Keep(pair) => put_pair(words, at, pair),
+        Body::Kept => put_no_pair(words, at),
+    }
+}
+
+fn put_message(words: &mut [u32], at: usize, m: Message)
+    requires { ⌜ at + 9 ≤ length (now words) ⌝ }
+    ensures { λ r. ⌜ now (words .exit) ≡ sets (now (words .entry)) at (slotWords (Held.Full m)) ⌝ }
+{
+    let client = m.client;
+    let replica = m.replica;
+    let cell = m.cell;
+    let body = m.body;
+    let six = [
+        1,
+        body_kind(body),
+        client.0 as u32,
+        replica.0 as u32,
+        cell.0 as u32,
+        m.op as u32,
+    ];
+    put(words, at, &six);
+    put_body(words, at + 6, body)
+}
+
+fn put_slot(words: &mut [u32], at: usize, held: Held)
+    requires { ⌜ at + 9 ≤ length (now words) ⌝ }
+    ensures { λ r. ⌜ now (words .exit) ≡ sets (now (words .entry)) at (slotWords held) ⌝ }
+{
+    match held {
+        Held::Empty => {
+            let nine = [0u32; 9];
+            put(words, at, &nine)
+        }
+        Held::Full(m) => put_message(words, at, m),
+    }
+}
+
+fn put_entry(words: &mut [u32], at: usize, entry: Entry)
+    requires { ⌜ at + 4 ≤ length (now words) ⌝ }
+    ensures { λ r. ⌜ now (words .exit) ≡ sets (now (words .entry)) at (rowOf entry) ⌝ }
+{
+    match entry {
+        Entry::ReadAsked(client, cell) => {
+            let row = [0u32, client.0 as u32, cell.0 as u32, 0];
+            put(words, at, &row)
+        }
+        Entry::WriteAsked(client, cell, v) => {
+            let row = [1u32, client.0 as u32, cell.0 as u32, number::alternating(v)];
+            put(words, at, &row)
+        }
+        Entry::Told(client, v) => {
+            let row = [2u32, client.0 as u32, 0, number::alternating(v)];
+            put(words, at, &row)
+        }
+        Entry::Done(client) => {
+            let row = [3u32, client.0 as u32, 0, 0];
+            put(words, at, &row)
+        }
+    }
+}
+
+// ---- writing each part
+
+fn put_head(words: &mut [u32], rack: Rack)
+    requires { ⌜ (length (now words) ≡ wordCount) × (rack .count ≤ 2048) ⌝ }
+    ensures { λ r. ⌜ now (words .exit) ≡ headOf rack (now (words .entry)) ⌝ }
+{
+    let sizes = rack.sizes;
+    let five = [
+        sizes.replicas as u32,
+        sizes.clients as u32,
+        sizes.cells as u32,
+        rack.power as u32,
+        rack.count as u32,
+    ];
+    put(words, 0, &five)
+}
+
+fn put_parties(words: &mut [u32], parties: [Party; 8], n: usize)
+    requires { ⌜ (length (now words) ≡ wordCount) × (n ≤ 8) ⌝ }
+    ensures { λ r. ⌜ now (words .exit) ≡ putFirsts n partyPlace (λ i. partyWords (getD parties i idle)) (now (words .entry)) ⌝ }
+{
+    let mut i: usize = 0;
+    while i < n {
+        let party = parties[i];
+        put_party(words, 5 + 10 * i, party);
+        i += 1;
+    }
+}
+
+// A pair of a cell that the rack hasn't got is not written.
+fn put_pair_of(words: &mut [u32], cells: usize, i: usize, pair: Pair)
+    requires { ⌜ (length (now words) ≡ wordCount) × (i < 240) ⌝ }
+    ensures { λ r. ⌜ now (words .exit) ≡ sets (now (words .entry)) (pairPlace i) (pairWritten cells i pair) ⌝ }
+{
+    if i % 16 < cells {
+        put_pair(words, 85 + 3 * i, pair)
+    }
+}
+
+fn put_pairs(words: &mut [u32], pairs: [Pair; 240], n: usize, cells: usize)
+    requires { ⌜ (length (now words) ≡ wordCount) × (n ≤ 240) ⌝ }
+    ensures { λ r. ⌜ now (words .exit) ≡ putFirsts n pairPlace (λ i. pairWritten cells i (getD pairs i freshPair)) (now (words .entry)) ⌝ }
+{
+    let mut i: usize = 0;
+    while i < n {
+        let pair = pairs[i];
+        put_pair_of(words, cells, i, pair);
+        i += 1;
+    }
+}
+
+fn put_wire(words: &mut [u32], wire: [Slot; 256])
+    requires { ⌜ length (now words) ≡ wordCount ⌝ }
+    ensures { λ r. ⌜ now (words .exit) ≡ putFirsts 256 slotPlace (λ i. slotWords (heldIn wire i)) (now (words .entry)) ⌝ }
+{
+    let mut i: usize = 0;
+    while i < 256 {
+        let slot = wire[i];
+        let held = slot.held;
+        put_slot(words, 805 + 9 * i, held);
+        i += 1;
+    }
+}
+
+fn put_lines(words: &mut [u32], lines: [Line; 2048], n: usize)
+    requires { ⌜ (length (now words) ≡ wordCount) × (n ≤ 2048) ⌝ }
+    ensures { λ r. ⌜ now (words .exit) ≡ putFirsts n entryPlace (λ i. rowOf (entryIn lines i)) (now (words .entry)) ⌝ }
+{
+    let mut i: usize = 0;
+    while i < n {
+        let line = lines[i];
+        let entry = line.entry;
+        put_entry(words, 3109 + 4 * i, entry);
+        i += 1;
+    }
+}
+
+// The clients and the pairs of the rack, within its sizes.
+fn put_members(words: &mut [u32], rack: Rack)
+    requires { ⌜ (length (now words) ≡ wordCount) × (soundOf rack ≡ true) ⌝ }
+    ensures { λ r. ⌜ now (words .exit) ≡ pairsPut rack (partiesPut rack (now (words .entry))) ⌝ }
+{
+    let sizes = rack.sizes;
+    let parties = rack.parties;
+    put_parties(words, parties, sizes.clients as usize);
+    let pairs = rack.pairs;
+    put_pairs(
+        words,
+        pairs,
+        16 * (sizes.replicas as usize),
+        sizes.cells as usize,
+    )
+}
+
+// The rack in its words.
+fn store(words: &mut [u32], rack: Rack)
+    requires { ⌜ (length (now words) ≡ wordCount) × (soundOf rack ≡ true) ⌝ }
+    ensures { λ r. ⌜ now (words .exit) ≡ writtenOf rack (now (words .entry)) ⌝ }
+{
+    put_head(words, rack);
+    put_members(words, rack);
+    let wire = rack.wire;
+    put_wire(words, wire);
+    let lines = rack.lines;
+    put_lines(words, lines, rack.count)
+}
+
+fn clear(words: &mut [u32])
+    ensures { λ r. ⌜ now (words .exit) ≡ replicate (length (now (words .entry))) 0 ⌝ }
+{
+    let mut i: usize = 0;
+    while i < words.len() {
+        words[i] = 0;
+        i += 1;
+    }
+}
+
+// ---- the calls
+
+fn answered(done: usize, refusal: u8) -> Answer
+    ensures { λ r. ⌜ r ≡ record { done = done; refusal = refusal } ⌝ }
+{
+    Answer {
+        done: done,
+        refusal: refusal,
+    }
+}
+
+// Writes the fresh rack of these sizes; where one is out of range, that is refused 1 and the fresh rack is of sizes 1, 1, 1.
+pub fn made(words: &mut [u32], replicas: u32, clients: u32, cells: u32) -> Answer
+    ensures { λ r. ⌜ (r ≡ madeOutcome replicas clients cells (now (words .entry)) .answer) × (now (words .exit) ≡ madeOutcome replicas clients cells (now (words .entry)) .lent) ⌝ }
+{
+    if words.len() != WORDS {
+        return answered(0, 20);
+    }
+    let made = Rack::made(replicas, clients, cells);
+    clear(words);
+    let rack = made.rack;
+    store(words, rack);
+    answered(0, made.refusal)
+}
+
+// Runs a schedule on the rack of the words.
+pub fn run(words: &mut [u32], allowance: usize, events: &[u32]) -> Answer
+    ensures { λ r. ⌜ (r ≡ runOutcome (now (words .entry)) allowance (now (events .entry)) .answer) × (now (words .exit) ≡ runOutcome (now (words .entry)) allowance (now (events .entry)) .lent) ⌝ }
+{
+    if words.len() != WORDS {
+        return answered(0, 20);
+    }
+    let rack = load(words);
+    let ran = schedule::run(rack, allowance, events);
+    if ran.done == 0 {
+        return answered(0, ran.refusal);
+    }
+    let after = ran.rack;
+    store(words, after);
+    answered(ran.done, ran.refusal)
+}
