@@ -5,21 +5,6 @@ use libc::STDOUT_FILENO;
 // The longest script that is taken has one byte less.
 const TOO_LONG: usize = 4194305;
 
-// Reads once more, drops what came, and answers whether there may be more.
-fn drop_some() -> bool {
-    let mut rest = io::buffer();
-    libc::read(STDIN_FILENO, &mut rest) > 0
-}
-
-// Reads on to the end of the input, so that whoever writes it can. A proved loop has to end, and nothing says that an input
-// does. So it counts its turns down, from a number that no run uses up.
-fn drop_all() {
-    let mut turns = u64::MAX;
-    while turns > 0 && drop_some() {
-        turns -= 1;
-    }
-}
-
 // Writes what there is to say of a script.
 fn say(script: &[u8]) {
     let mut lines = [0u8; 262144];
@@ -31,7 +16,7 @@ fn main() {
     let mut script = [0u8; 4194305];
     let n = io::read_full(STDIN_FILENO, &mut script);
     if n == TOO_LONG {
-        drop_all();
+        input::drop_rest();
         io::write_all(STDOUT_FILENO, b"script longer than 4194304 bytes\n");
         return;
     }

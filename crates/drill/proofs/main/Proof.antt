@@ -12,8 +12,8 @@ slice-aggregate-read-full c = sym (length-replicate {0} {A = ℕ} 4194305 0)
 read-full-requires : tie.Need-read-full-requires
 read-full-requires c κs = search needs
 
-drop-all-requires : tie.Need-drop-all-requires
-drop-all-requires c κs = search needs
+drop-rest-requires : tie.Need-drop-rest-requires
+drop-rest-requires c κs = search needs
 
 slice-aggregate-write-all : tie.Need-slice-aggregate-write-all
 slice-aggregate-write-all c = search needs
@@ -42,7 +42,7 @@ main-spec =
     (tie.spec
     slice-aggregate-read-full
     read-full-requires
-    drop-all-requires
+    drop-rest-requires
     slice-aggregate-write-all
     write-all-requires
     returns

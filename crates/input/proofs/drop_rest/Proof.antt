@@ -1,7 +1,7 @@
--- `drill::drop_all` is safe and ends. Nothing has to hold from turn to turn; the measure is the number of turns that are left. Assumes nothing.
+-- `input::drop_rest` is safe and ends. Nothing has to hold from turn to turn; the measure is the number of turns that are left. Assumes nothing.
 use native.Mathlib.Omega.{arith}
-use Rattle.drill.proofs.drop_all.Statement.{statement}
-use Rattle.drill.proofs.drop_all.Tie as tie
+use Rattle.input.proofs.drop_rest.Statement.{statement}
+use Rattle.input.proofs.drop_rest.Tie as tie
 
 abbrev Inv-loop : tie.InvT-loop
 Inv-loop turns₀ turns = Unit {0}
@@ -30,8 +30,8 @@ returns c = tt
 returns-2 : tie.Need-returns-2 Inv-loop μ-loop
 returns-2 c = tt
 
-pub drop-all-spec : {M : Type 1} → statement M
-drop-all-spec =
+pub drop-rest-spec : {M : Type 1} → statement M
+drop-rest-spec =
     tie.close
     (tie.spec
     Inv-loop
