@@ -5,9 +5,10 @@ use mathlib.Core.List.{List}
 use native.Mathlib.Omega.{arith}
 use lib.ListN.{getD, replicate}
 use Rattle.record.specs.Wrote.{Wrote}
+use Rattle.text.specs.Text.{digitsOf}
 use Rattle.verdict.specs.declared.Verdict.{Verdict}
 use Rattle.verdict.specs.declared.Verdict.the-variants.{Lawful, Refused}
-use Rattle.report.specs.Line.{digitsOf, lineOf}
+use Rattle.report.specs.Line.{lineOf}
 
 -- what is answered and what stands in the lent bytes afterwards
 pub only-one : (before : List ℕ) (v : Verdict) {r s : ℕ} {after other : List ℕ} → Wrote before 0 (lineOf v) r after → Wrote before 0 (lineOf v) s other → (r ≡ s) × (after ≡ other)

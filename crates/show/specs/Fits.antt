@@ -1,15 +1,15 @@
 -- The lines of a run on a sound rack have 262,144 bytes at most.
-use Prim.Native.Nat.{ℕ, zero, suc, _+_, _*_, _/_, _%_, _≤_}
+use Prim.Native.Nat.{ℕ, zero, suc, _+_, _*_, _≤_}
 use mathlib.Core.Path.{_≡_}
 use mathlib.Core.Bool.{Bool, true, false, cond}
 use mathlib.Core.List.{List, [], _∷_, _++_, map}
 use native.Mathlib.Omega.{arith}
-use lib.Dec.{ltb, eqb}
-use lib.IntN.{ℤ, pos, negsuc}
+use lib.Dec.{eqb}
 use lib.ListN.{length, length-append, take}
 use Rattle.number.specs.Value.{alternatingOf}
 use Rattle.number.specs.Laws.{length-few}
-use Rattle.text.specs.Text.{digitsOf, decimal, valueText, hexText}
+use Rattle.text.specs.Text.{decimal, field, lineFeed, hexText}
+use Rattle.text.specs.Length.{Few, both, digits-few, value-few, hex-few}
 use Rattle.record.specs.declared.Entry.{Entry}
 use Rattle.record.specs.declared.Entry.the-variants.{ReadAsked, WriteAsked, Told, Done}
 use Rattle.record.specs.Entry.{entryBytes}
@@ -32,32 +32,10 @@ use Rattle.rack.specs.declared.Ran.{Ran}
 use Rattle.rack.specs.Places.{partyAt, pairAt, heldAt, recordOf}
 use Rattle.rack.specs.Sound.{soundOf}
 use Rattle.rack.specs.SoundLaws.{sound-of}
-use Rattle.show.specs.Words.{doneStart, refusedStart, noneWord, replicaStart, clientStart, slotStart, recordStart, space, lineFeed, askingWord, keepingWord, fromNone, heldNone}
-use Rattle.show.specs.Lines.{field, eachBelow, pairText, kindText, bodyPair, namesText, messageText, slotLine, goalText, memberText, membersText, openText, heldText, firstHeld, workText, stoppedText, clientLine, powerText, pairsText, replicaLine, sizesLine, recordLine, rackText, refusalText, ranText, faultLine}
+use Rattle.show.specs.Words.{doneStart, refusedStart, noneWord, replicaStart, clientStart, slotStart, recordStart, space, askingWord, keepingWord, fromNone, heldNone}
+use Rattle.show.specs.Lines.{eachBelow, pairText, kindText, bodyPair, namesText, messageText, slotLine, goalText, memberText, membersText, openText, heldText, firstHeld, workText, stoppedText, clientLine, powerText, pairsText, replicaLine, sizesLine, recordLine, rackText, refusalText, ranText, faultLine}
 
--- how long a text is at most
-record Few (text : List ℕ) (most : ℕ) : Type 0 where
-  few : length text ≤ most
-
--- one text after another
-both : {xs ys : List ℕ} {a b : ℕ} → Few xs a → Few ys b → Few (xs ++ ys) (a + b)
-both {xs} {ys} h k = record { few = let e = length-append xs ys in omega (arith, h .few, k .few) }
-
--- ---- numbers, values and pairs
-
-digits-few : (places n : ℕ) → Few (digitsOf places n) places
-unfolding digitsOf
-digits-few zero n = record { few = omega arith }
-digits-few (suc p) n = go (ltb n 10) (digits-few p (n / 10))
-  where
-    go : (t : Bool) → Few (digitsOf p (n / 10)) p → Few (cond t ((48 + n) ∷ []) (digitsOf p (n / 10) ++ ((48 + n % 10) ∷ []))) (suc p)
-    go true ih = record { few = omega arith }
-    go false ih = record { few = simp length-append (omega arith) }
-
-value-few : (v : ℤ) → Few (valueText v) 21
-unfolding valueText
-value-few (pos n) = record { few = omega (arith, digits-few 20 n .few) }
-value-few (negsuc n) = record { few = omega (arith, digits-few 20 (n + 1) .few) }
+-- ---- pairs
 
 pair-few : (p : Pair) → Few (pairText p) 63
 pair-few p = record { few = simp length-append (omega (arith, digits-few 20 (p .stamp .number) .few, digits-few 20 (p .stamp .rank) .few, value-few (p .value) .few)) }
@@ -161,11 +139,6 @@ replica-few r h k =
     both start (both (power-few (hasReplica (r .power) k)) (both pairs end))
 
 -- ---- the record
-
-hex-few : (bs : List ℕ) → Few (hexText bs) (3 * length bs)
-unfolding hexText
-hex-few [] = record { few = omega arith }
-hex-few (b ∷ bs) = record { few = omega (arith, hex-few bs .few) }
 
 entry-few : (e : Entry) → Few (entryBytes e) 20
 unfolding entryBytes

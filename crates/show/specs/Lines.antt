@@ -3,7 +3,7 @@ use Prim.Native.Nat.{ℕ, zero, suc}
 use mathlib.Core.List.{List, [], _++_}
 use mathlib.Core.Bool.{Bool, true, false, cond}
 use lib.Dec.{eqb}
-use Rattle.text.specs.Text.{decimal, valueText, hexText}
+use Rattle.text.specs.Text.{decimal, field, lineFeed, valueText, hexText}
 use Rattle.record.specs.Record.{bytesOf}
 use Rattle.quorum.specs.Sets.{hasReplica}
 use Rattle.plan.specs.declared.Pair.{Pair}
@@ -21,13 +21,9 @@ use Rattle.rack.specs.declared.Sizes.{Sizes}
 use Rattle.rack.specs.declared.Rack.{Rack}
 use Rattle.rack.specs.declared.Ran.{Ran}
 use Rattle.rack.specs.Places.{slotLimit, partyAt, pairAt, heldAt, recordOf}
-use Rattle.show.specs.Words.{doneStart, refusedStart, noneWord, byteWords, rackStart, replicaStart, clientStart, slotStart, recordStart, space, lineFeed, dot, equals, onWord, offWord, stoppedWord, idleWords, askingWord, keepingWord, readWord, writeWord, fromWord, fromNone, heldWord, heldNone, askWord, tellWord, keepWord, keptWord, pairWord, clientWord, replicaWord, cellWord, opWord}
+use Rattle.show.specs.Words.{doneStart, refusedStart, noneWord, byteWords, rackStart, replicaStart, clientStart, slotStart, recordStart, space, dot, equals, onWord, offWord, stoppedWord, idleWords, askingWord, keepingWord, readWord, writeWord, fromWord, fromNone, heldWord, heldNone, askWord, tellWord, keepWord, keptWord, pairWord, clientWord, replicaWord, cellWord, opWord}
 
 -- ---- what lines are made of
-
--- words, and then a number
-abbrev pub field : List ℕ → ℕ → List ℕ
-field words n = words ++ decimal n
 
 -- the texts of the numbers below n, one after another
 unfoldable pub eachBelow : ℕ → (ℕ → List ℕ) → List ℕ

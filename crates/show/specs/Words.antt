@@ -42,10 +42,6 @@ recordStart = 114 ∷ 101 ∷ 99 ∷ 111 ∷ 114 ∷ 100 ∷ []
 abbrev pub space : List ℕ
 space = 32 ∷ []
 
--- the line feed
-abbrev pub lineFeed : List ℕ
-lineFeed = 10 ∷ []
-
 -- "."
 abbrev pub dot : List ℕ
 dot = 46 ∷ []

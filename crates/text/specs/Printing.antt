@@ -4,21 +4,17 @@ use mathlib.Core.Path.{_≡_, refl, sym, ap, _∙_}
 use mathlib.Core.List.{List, [], _∷_, _++_, append-assoc}
 use mathlib.Core.Bool.{Bool, true, false}
 use native.Mathlib.Omega.{arith}
-use native.Mathlib.Nat.{add-zero}
 use lib.ListN.{length, length-append, set}
 use lib.Seq.{sets, length-sets, set-out}
 use lib.Dec.{leb}
 use borrow.Author.Tests.{leb-true, leb-false}
+use Rattle.record.specs.Wrote.{sets-append}
 use Rattle.text.specs.Text.{hexByte, hexText, Printed}
 
 -- what would stand past the end is dropped
 past : (l : List ℕ) (i : ℕ) (xs : List ℕ) → length l ≤ i → sets l i xs ≡ l
 past l i [] h = refl
 past l i (x ∷ xs) h = ap (λ (m : List ℕ). sets m (suc i) xs) (set-out l i x h) ∙ past l (suc i) xs (omega arith)
-
-sets-append : (l : List ℕ) (i : ℕ) (xs ys : List ℕ) → sets (sets l i xs) (i + length xs) ys ≡ sets l i (xs ++ ys)
-sets-append l i [] ys = simp add-zero
-sets-append l i (x ∷ xs) ys = ap (λ (k : ℕ). sets (sets l i (x ∷ xs)) k ys) (omega arith) ∙ sets-append _ (suc i) xs ys
 
 module _ {l : List ℕ} {at : ℕ} where
   -- nothing

@@ -1,4 +1,4 @@
--- Numbers in decimal, values with their sign and bytes in hex; and what writing a text into lent bytes leaves.
+-- Numbers in decimal, values with their sign and bytes in hex; the line feed; and what writing a text into lent bytes leaves.
 use Prim.Native.Nat.{ℕ, zero, suc, _+_, _/_, _%_, min, max}
 use mathlib.Core.Path.{_≡_}
 use mathlib.Core.List.{List, [], _∷_, _++_}
@@ -16,6 +16,14 @@ digitsOf (suc places) n = cond (ltb n 10) ((48 + n) ∷ []) (digitsOf places (n 
 -- a number in decimal: none of 64 bits has more than 20 digits
 abbrev pub decimal : ℕ → List ℕ
 decimal n = digitsOf 20 n
+
+-- words, and then a number
+abbrev pub field : List ℕ → ℕ → List ℕ
+field words n = words ++ decimal n
+
+-- the line feed
+abbrev pub lineFeed : List ℕ
+lineFeed = 10 ∷ []
 
 -- a value: its digits, after "-" below zero
 unfoldable pub valueText : ℤ → List ℕ

@@ -1,9 +1,9 @@
 // Lines for people: words, numbers in decimal and bytes in hex, written from a place on as far as the lent bytes go.
 ghost use mathlib.Core.Path.{_≡_};
-ghost use mathlib.Core.List.{[], _∷_, _++_};
+ghost use mathlib.Core.List.{[], _∷_};
 ghost use Prim.Native.Nat.{_<_};
 ghost use Rattle.number.specs.Number.{numberBytes};
-ghost use Rattle.text.specs.Text.{digitsOf, decimal, valueText, hexDigit, hexByte, hexText, Printed};
+ghost use Rattle.text.specs.Text.{digitsOf, decimal, field, valueText, hexDigit, hexByte, hexText, Printed};
 use number::Put;
 
 // One byte.
@@ -53,7 +53,7 @@ pub fn put_decimal(out: &mut [u8], at: usize, n: usize) -> usize
 
 // Words, and then a number in decimal.
 pub fn put_field(out: &mut [u8], at: usize, words: &[u8], n: usize) -> usize
-    ensures { λ r. ⌜ Printed (now (out .entry)) at (now (words .entry) ++ decimal n) r (now (out .exit)) ⌝ }
+    ensures { λ r. ⌜ Printed (now (out .entry)) at (field (now (words .entry)) n) r (now (out .exit)) ⌝ }
 {
     let next = put_words(out, at, words);
     put_decimal(out, next, n)

@@ -1,5 +1,5 @@
-use Rattle.text.proofs.Laws.{handed, value-even, value-odd}
 -- `text::put_value` meets its contract. Assumes nothing.
+use Rattle.text.proofs.Laws.{handed, value-even, value-odd}
 use borrow.Author.Needs.{needs}
 use Rattle.text.proofs.put_value.Statement.{statement}
 use Rattle.text.proofs.put_value.Tie as tie
