@@ -15,8 +15,8 @@ pub struct Stamp {
 
 // What a replica keeps for one cell.
 pub struct Pair {
-    pub stamp: Stamp,
     pub value: i32,
+    pub stamp: Stamp,
 }
 
 // What a message says.

@@ -212,8 +212,9 @@ fn go_on(mut r: Rack, start: Start, allowance: usize, events: &[u32]) -> Ran
                 let pair2 = p.pair;
                 r.pairs[a] = pair2;
                 r.power = p.power;
-                let slot2 = slot_after(p.clear, slot);
-                r.wire[j] = slot2;
+                // The slot is read again: so nothing of it has to be kept over the plan, and that is faster.
+                let old = r.wire[j];
+                r.wire[j] = slot_after(p.clear, old);
                 slots::mark(&mut free, j, p.clear);
                 let message = p.message;
                 let mut left = p.to;

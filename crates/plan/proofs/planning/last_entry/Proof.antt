@@ -15,7 +15,7 @@ enum-told-2 c = search needs
 
 returns : tie.Need-returns
 unfolding lastEntry
-returns c = let f = c .struct-told .given .1 .0 .1 in rw (toZ-ofZ {w = w32} (sfits-of f), c .before .enum-told .given .1)
+returns c = let f = c .struct-told .given .0 .1 in rw (toZ-ofZ {w = w32} (sfits-of f), c .before .enum-told .given .1)
 
 returns-2 : tie.Need-returns-2
 unfolding lastEntry
