@@ -4,13 +4,8 @@ use mathlib.Core.Path.{_≡_, refl, ap, _∙_}
 use mathlib.Core.Bool.{Bool, true, false, not}
 use mathlib.Core.List.{List, [], _∷_}
 use native.Mathlib.Omega.{arith}
-use lib.Count.{ones}
 use lib.ListN.{length, replicate, length-replicate}
-use Rattle.quorum.specs.Sets.{membersOf}
-use Rattle.quorum.specs.Laws.{within-below}
-use Rattle.quorum.specs.Members.{members-count}
 use Rattle.slots.specs.Free.{digit, countFrom}
-use Rattle.plan.specs.declared.Message.{Message}
 use Rattle.rack.specs.declared.Slot.{Slot}
 use Rattle.rack.specs.declared.Rack.{Rack}
 use Rattle.plan.specs.declared.Event.{Event}
@@ -18,12 +13,11 @@ use Rattle.plan.specs.declared.Plan.{Plan}
 use Rattle.plan.specs.declared.Outcome.the-variants.{Go}
 use Rattle.rack.specs.Places.{empty, freeAt, roomOf}
 use Rattle.rack.specs.Sound.{soundOf}
-use Rattle.rack.specs.Run.{slotOf, freed, decided, addressed, cleared, appliedOf, freshRack, madeOf, runOf}
-use Rattle.rack.specs.Decided.{Decided, decided-fits}
+use Rattle.rack.specs.Run.{decided, appliedOf, freshRack, madeOf, runOf}
+use Rattle.rack.specs.Decided.{decided-fits}
 use Rattle.rack.specs.Counts.{sentBy, deliveredBy}
-use Rattle.schedule.specs.Sending.{cleared-room, sent-room}
 use Rattle.schedule.specs.Stays.{sound-stays}
-use Rattle.schedule.specs.Loop.{applied-wire, cleared-long}
+use Rattle.schedule.specs.Loop.{applied-wire, room-after}
 use Rattle.counts.specs.Counts.{inUse, copiedBy, lostBy, tallyOf}
 use Rattle.counts.specs.PlanCounts.{decided-counts}
 use Rattle.counts.specs.Runs.{both, Adds, run-adds, unsound-none, made-fresh}
@@ -43,24 +37,6 @@ use-or-free (suc n) b f = go (f b) (use-or-free n (b + 1) f)
 use-room : (w : List Slot) → inUse w + roomOf w ≡ 256
 unfolding inUse roomOf
 use-room w = use-or-free 256 0 (freeAt w)
-
-addressed-count : (m : Message) (ks : List ℕ) → length (addressed m ks) ≡ length ks
-unfolding addressed
-addressed-count m [] = refl
-addressed-count m (k ∷ ks) = ap suc (addressed-count m ks)
-
--- the slot that is freed is free again, and each message takes one
-room-after : (r : Rack) (e : Event) (p : Plan) → Decided r e p → length (r .wire) ≡ 256
-    → roomOf (appliedOf r e p .wire) + ones (p .to) ≡ roomOf (r .wire) + freed (p .clear)
-unfolding appliedOf freeAt
-room-after r e p d l =
-    let w : List Slot = cleared (p .clear) (slotOf e) (r .wire) in
-    let ms : List Message = addressed (p .message) (membersOf (r .sizes .replicas) (p .to)) in
-    let c : roomOf w ≡ roomOf (r .wire) + freed (p .clear) = cleared-room (p .clear) (slotOf e) (r .wire) (d .looked .slot) l (d .fits .slot) in
-    let o : length ms ≡ ones (p .to) =
-    addressed-count (p .message) (membersOf (r .sizes .replicas) (p .to)) ∙ members-count (r .sizes .replicas) (p .to) (within-below (r .sizes .replicas) (p .to) (d .fits .to)) in
-    let b : length ms ≤ roomOf w = omega (arith, o, c, d .room) in
-    omega (arith, sent-room w ms (cleared-long (p .clear) (slotOf e) (r .wire) ∙ l) b, o, c)
 
 -- ---- a run
 

@@ -1,16 +1,19 @@
 -- What the loop of a schedule knows, and one turn of it.
-use Prim.Native.Nat.{ℕ, _+_, _-_, _*_, _/_, _^_, _≤_, _<_}
+use Prim.Native.Nat.{ℕ, suc, _+_, _-_, _*_, _/_, _^_, _≤_, _<_}
 use mathlib.Core.Path.{_≡_, refl, ap, sym, _∙_}
 use mathlib.Core.Bool.{Bool, true, false}
-use mathlib.Core.List.{List}
+use mathlib.Core.List.{List, [], _∷_}
 use native.Mathlib.Omega.{arith}
-use lib.Dec.{ltb, leb}
+use lib.Dec.{leb}
+use lib.Count.{ones}
 use lib.ListN.{getD, set, length, length-set, drop}
-use borrow.Author.Tests.{ltb-true, leb-true, leb-false}
+use borrow.Author.Tests.{leb-true, leb-false}
 use Rattle.record.specs.declared.Entry.{Entry}
-use Rattle.slots.specs.Free.{countFree, markedAt}
+use Rattle.slots.specs.Free.{markedAt}
 use Rattle.slots.specs.Words.{Tied}
-use Rattle.quorum.specs.Sets.{within, membersOf}
+use Rattle.quorum.specs.Sets.{membersOf}
+use Rattle.quorum.specs.Laws.{within-below}
+use Rattle.quorum.specs.Members.{members-count}
 use Rattle.plan.specs.declared.Message.{Message}
 use Rattle.rack.specs.declared.Slot.{Slot}
 use Rattle.rack.specs.declared.Rack.{Rack}
@@ -25,12 +28,12 @@ use Rattle.plan.specs.Plan.{planOf}
 use Rattle.rack.specs.Places.{empty, idle, heldIn, freeAt, roomOf, sentOf}
 use Rattle.rack.specs.Sound.{owedBy, owed, soundOf}
 use Rattle.plan.specs.About.{clientOf}
-use Rattle.rack.specs.Run.{inRack, slotOf, placeIn, checked, decided, addressed, cleared, recorded, entriesIn, appliedOf, turn, ranOf, runFrom}
+use Rattle.rack.specs.Run.{inRack, slotOf, placeIn, freed, checked, decided, addressed, cleared, recorded, entriesIn, appliedOf, turn, ranOf, runFrom}
 use Rattle.rack.specs.SoundLaws.{sound-of}
 use Rattle.rack.specs.Decided.{lookedClient, lookedParty, lookedPlace, Looked, looked, Decided, decided-fits}
 use Rattle.schedule.specs.Stays.{stays, sound-stays, owed-after}
 use Rattle.schedule.specs.Steps.{eventAt, tried, used-up, ended}
-use Rattle.schedule.specs.Sending.{slotAfter, cleared-is, Sending, sending-start, sending-end, sent-long}
+use Rattle.schedule.specs.Sending.{room-most, slotAfter, cleared-is, cleared-room, Sending, sending-start, sending-end, sent-long, sent-room}
 
 -- ---- the rack after a plan, in parts
 
@@ -47,25 +50,40 @@ pub applied-parties : (r : Rack) (e : Event) (p : Plan) → length (appliedOf r 
 unfolding appliedOf
 applied-parties r e p = length-set (r .parties) (lookedClient r e) (p .party)
 
-within-less : (n s : ℕ) → within n s ≡ true → ltb s (2 ^ n) ≡ true
-unfolding within
-within-less n s h = h
+addressed-count : (m : Message) (ks : List ℕ) → length (addressed m ks) ≡ length ks
+unfolding addressed
+addressed-count m [] = refl
+addressed-count m (k ∷ ks) = ap suc (addressed-count m ks)
+
+-- the slot that is freed is free again, and each message takes one
+pub room-after : (r : Rack) (e : Event) (p : Plan) → Decided r e p → length (r .wire) ≡ 256
+    → roomOf (appliedOf r e p .wire) + ones (p .to) ≡ roomOf (r .wire) + freed (p .clear)
+unfolding appliedOf freeAt
+room-after r e p d l =
+    let w : List Slot = cleared (p .clear) (slotOf e) (r .wire) in
+    let ms : List Message = addressed (p .message) (membersOf (r .sizes .replicas) (p .to)) in
+    let c : roomOf w ≡ roomOf (r .wire) + freed (p .clear) = cleared-room (p .clear) (slotOf e) (r .wire) (d .looked .slot) l (d .fits .slot) in
+    let o : length ms ≡ ones (p .to) =
+    addressed-count (p .message) (membersOf (r .sizes .replicas) (p .to)) ∙ members-count (r .sizes .replicas) (p .to) (within-below (r .sizes .replicas) (p .to) (d .fits .to)) in
+    let b : length ms ≤ roomOf w = omega (arith, o, c, d .room) in
+    omega (arith, sent-room w ms (cleared-long (p .clear) (slotOf e) (r .wire) ∙ l) b, o, c)
 
 -- ---- what the loop knows at event i: the run from here is the whole run, and the rack is sound; its free slots and its answers owed are at hand
 
-pub record Going (self : Rack) (allowance : ℕ) (ws : List ℕ) (r : Rack) (free : List ℕ) (owing i : ℕ) : Type 0 where
+pub record Going (self : Rack) (allowance : ℕ) (ws : List ℕ) (r : Rack) (free : List ℕ) (room owing i : ℕ) : Type 0 where
   pub steps : runFrom 0 self allowance ws ≡ runFrom i r (allowance - i) (drop (4 * i) ws)
   pub sound : soundOf r ≡ true
   pub tied : Tied (freeAt (r .wire)) free
+  pub rooms : room ≡ roomOf (r .wire)
   pub owes : owing ≡ owed r
   pub wire-long : length (r .wire) ≡ 256
   pub parties-long : length (r .parties) ≡ 8
 
-pub going-start : (self : Rack) (allowance : ℕ) (ws : List ℕ) (free : List ℕ) (owing : ℕ) → soundOf self ≡ true → Tied (freeAt (self .wire)) free → owing ≡ owed self
-    → length (self .wire) ≡ 256 → length (self .parties) ≡ 8 → Going self allowance ws self free owing 0
-going-start self allowance ws free owing so t o l k =
+pub going-start : (self : Rack) (allowance : ℕ) (ws : List ℕ) (free : List ℕ) (room owing : ℕ) → soundOf self ≡ true → Tied (freeAt (self .wire)) free → room ≡ roomOf (self .wire) → owing ≡ owed self
+    → length (self .wire) ≡ 256 → length (self .parties) ≡ 8 → Going self allowance ws self free room owing 0
+going-start self allowance ws free room owing so t m o l k =
     let e : allowance ≡ allowance - 0 = omega arith in
-    record { steps = ap (λ (n : ℕ). runFrom 0 self n ws) e; sound = so; tied = t; owes = o; wire-long = l; parties-long = k }
+    record { steps = ap (λ (n : ℕ). runFrom 0 self n ws) e; sound = so; tied = t; rooms = m; owes = o; wire-long = l; parties-long = k }
 
 -- how many events can be tried: the whole ones, as far as the allowance goes
 pub record Most (allowance words n : ℕ) : Type 0 where
@@ -79,7 +97,7 @@ pub record There (j c a : ℕ) : Type 0 where
   pub client : c < 8
   pub pair : a < 240
 
-module _ (self : Rack) (allowance : ℕ) (ws : List ℕ) (r : Rack) (free : List ℕ) (owing i : ℕ) (g : Going self allowance ws r free owing i) where
+module _ (self : Rack) (allowance : ℕ) (ws : List ℕ) (r : Rack) (free : List ℕ) (room owing i : ℕ) (g : Going self allowance ws r free room owing i) where
   -- the allowance is used, or the list has ended
   pub going-stop : allowance ≤ i → ranOf i 0 r ≡ runFrom 0 self allowance ws
   going-stop h = sym (g .steps ∙ used-up i r allowance i (drop (4 * i) ws) h)
@@ -122,8 +140,8 @@ module _ (self : Rack) (allowance : ℕ) (ws : List ℕ) (r : Rack) (free : List
       record { slot = there-slot e j h ej; client = omega (arith, l .client, sound-of r (g .sound) .sizes .clients); pair = omega (arith, l .place) }
 
   -- the outcome is the definition's
-  pub going-plan : (e : Event) (j c a room : ℕ) (q o : Outcome) → inRack (r .sizes) e ≡ true → j ≡ slotOf e → c ≡ clientOf e (heldIn (r .wire) j)
-      → a ≡ placeIn (heldIn (r .wire) j) → room ≡ countFree (freeAt (r .wire))
+  pub going-plan : (e : Event) (j c a : ℕ) (q o : Outcome) → inRack (r .sizes) e ≡ true → j ≡ slotOf e → c ≡ clientOf e (heldIn (r .wire) j)
+      → a ≡ placeIn (heldIn (r .wire) j)
       → q ≡ planOf (record {
         replicas = r .sizes .replicas;
         power = r .power;
@@ -131,8 +149,8 @@ module _ (self : Rack) (allowance : ℕ) (ws : List ℕ) (r : Rack) (free : List
         pair = getD (r .pairs) a freshPair;
       }) (heldIn (r .wire) j) e
       → o ≡ checked q (r .count + owing) room → decided r e ≡ o
-  unfolding decided roomOf
-  going-plan e j c a room q o h ej ec ea er eq eo = sym (eo ∙ rw (eq, h, er, g .owes, ec, ea, ej))
+  unfolding decided
+  going-plan e j c a q o h ej ec ea eq eo = sym (eo ∙ rw (eq, h, g .rooms, g .owes, ec, ea, ej))
 
   -- its slot is full where it is emptied
   going-full : (e : Event) (j : ℕ) (p : Plan) → decided r e ≡ Go p → j ≡ slotOf e → p .clear ≡ true → freeAt (r .wire) j ≡ false
@@ -146,7 +164,7 @@ module _ (self : Rack) (allowance : ℕ) (ws : List ℕ) (r : Rack) (free : List
   going-send e j p s after d ej es k =
       let f : Decided r e p = decided-fits r e p (g .sound) d in
       sending-start (r .sizes .replicas) (r .wire) j (p .clear) s (p .message) (p .to) free after es (there-slot e j (f .inside) ej) (g .wire-long)
-      (going-full e j p d ej) (g .tied) k (f .room) (ltb-true (p .to) (2 ^ r .sizes .replicas) (within-less (r .sizes .replicas) (p .to) (f .fits .to)))
+      (going-full e j p d ej) (g .tied) k (f .room) (within-below (r .sizes .replicas) (p .to) (f .fits .to))
       (omega (arith, sound-of r (g .sound) .sizes .replicas))
 
   -- the entry finds its place
@@ -168,16 +186,22 @@ module _ (self : Rack) (allowance : ℕ) (ws : List ℕ) (r : Rack) (free : List
       → (owedBy (getD (r .parties) c idle) ≤ owing + owedBy (p .party)) × (owing ≤ 2048)
   owing-fits e j c p d ej ec = (omega (arith, going-owes e j c p d ej ec), omega (arith, g .owes, sound-of r (g .sound) .entries))
 
+  -- and so can that of the free slots
+  pub room-fits : (e : Event) (p : Plan) → decided r e ≡ Go p → (ones (p .to) ≤ room + freed (p .clear)) × (room ≤ 256)
+  room-fits e p d = (omega (arith, g .rooms, decided-fits r e p (g .sound) d .room), omega (arith, g .rooms, room-most (r .wire)))
+
   -- the next turn
-  pub going-on : (e : Event) → e ≡ eventAt ws i → (j c : ℕ) (p : Plan) (s : Rack) (after : List ℕ) (o n : ℕ) → decided r e ≡ Go p → j ≡ slotOf e
+  pub going-on : (e : Event) → e ≡ eventAt ws i → (j c : ℕ) (p : Plan) (s : Rack) (after : List ℕ) (f o n : ℕ) → decided r e ≡ Go p → j ≡ slotOf e
       → c ≡ clientOf e (heldIn (r .wire) j) → Most allowance (length ws) n → i < n → s ≡ appliedOf r e p → Tied (freeAt (s .wire)) after
-      → o ≡ owing + owedBy (p .party) - owedBy (getD (r .parties) c idle) → Going self allowance ws s after o (i + 1)
+      → o ≡ owing + owedBy (p .party) - owedBy (getD (r .parties) c idle) → f ≡ room + freed (p .clear) - ones (p .to)
+      → Going self allowance ws s after f o (i + 1)
   unfolding turn
-  going-on e ee j c p s after o n d ej ec m h es t eo =
+  going-on e ee j c p s after f o n d ej ec m h es t eo ef =
       record {
         steps = next e ee (Go p) d (omega (arith, m .below)) (omega (arith, m .whole)) ∙ ap (λ (q : Rack). runFrom (i + 1) q (allowance - (i + 1)) (drop (4 * (i + 1)) ws)) (sym es);
         sound = ap soundOf es ∙ sound-stays r e p (g .sound) d;
         tied = t;
+        rooms = omega (arith, ef, g .rooms, room-after r e p (decided-fits r e p (g .sound) d) (g .wire-long), ap (λ (q : Rack). roomOf (q .wire)) es);
         owes = omega (arith, eo, going-owes e j c p d ej ec, ap owed es);
         wire-long = ap (λ (q : Rack). length (q .wire)) es ∙ applied-wire r e p ∙ g .wire-long;
         parties-long = ap (λ (q : Rack). length (q .parties)) es ∙ applied-parties r e p ∙ g .parties-long;

@@ -6,10 +6,11 @@ use native.Mathlib.Omega.{arith}
 use native.Mathlib.Nat.{pow-suc, zero-add}
 use lib.Dec.{eqb}
 use lib.ListN.{length}
-use lib.Count.{ones, ones-step, trailingZeros, under}
+use lib.Count.{ones, trailingZeros, under}
 use lib.Pow.{shr-shr, pow-mono}
 use Rattle.slots.specs.Bits.{trailing-room}
 use Rattle.quorum.specs.Sets.{hasReplica, keepIf, membersFrom, membersOf}
+use Rattle.quorum.specs.Members.{members-count}
 
 -- the members by their bits: n bits of x, the lowest of which is for replica b
 unfoldable bitMembers : ℕ → ℕ → ℕ → List ℕ
@@ -60,17 +61,6 @@ bits-next (suc n) b x h l = go (x % 2) refl (bits-next n (b + 1) (x / 2))
         rw (e, s, t, u)
     go (suc (suc d)) e ih = absurd (omega arith)
 
-bits-count : (n b x : ℕ) → x < 2 ^ n → length (bitMembers n b x) ≡ ones x
-unfolding bitMembers ones
-bits-count zero b x h = let e : x ≡ 0 = omega arith in rw e
-bits-count (suc n) b x h = go (x % 2) refl (bits-count n (b + 1) (x / 2) (omega (arith, pow-suc 2 n)))
-  where
-    go : (d : ℕ) → x % 2 ≡ d → length (bitMembers n (b + 1) (x / 2)) ≡ ones (x / 2)
-        → length (keepIf (eqb (x % 2) 1) b (bitMembers n (b + 1) (x / 2))) ≡ ones x
-    go zero e ih = rw e (omega (arith, ih, ones-step x))
-    go (suc zero) e ih = rw e (omega (arith, ih, ones-step x))
-    go (suc (suc d)) e ih = absurd (omega arith)
-
 -- ---- the same of the members of a set among n replicas, with 16 bits
 
 members-bits : (n x : ℕ) → n ≤ 16 → x < 2 ^ n → membersOf n x ≡ bitMembers 16 0 x
@@ -92,13 +82,7 @@ members-none n =
     let z : 0 / 2 ^ 0 ≡ 0 = omega arith in
     bits-are n 0 0 ∙ ap (bitMembers n 0) z ∙ none-left n 0
 
--- as many as are counted
-pub members-ones : (n x : ℕ) → x < 2 ^ n → length (membersOf n x) ≡ ones x
-members-ones n x h =
-    let z : x / 2 ^ 0 ≡ x = omega arith in
-    ap length (bits-are n 0 x ∙ ap (bitMembers n 0) z) ∙ bits-count n 0 x h
-
 pub ones-rest : (n x : ℕ) → n ≤ 16 → x < 2 ^ n → 0 < x → ones (x - 2 ^ trailingZeros 16 x) + 1 ≡ ones x
 ones-rest n x l h p =
     let y : ℕ = x - 2 ^ trailingZeros 16 x in
-    omega (arith, ap length (members-next n x l h p), members-ones n x h, members-ones n y (omega arith))
+    omega (arith, ap length (members-next n x l h p), members-count n x h, members-count n y (omega arith))

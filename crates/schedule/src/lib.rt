@@ -3,12 +3,12 @@ ghost use mathlib.Core.Path.{_≡_};
 ghost use mathlib.Core.Bool.{true};
 ghost use mathlib.Core.List.{[], _∷_};
 ghost use Prim.Native.Nat.{_+_, _-_, _*_, _^_, _<_, _≤_};
-ghost use lib.Count.{trailingZeros};
+ghost use lib.Count.{ones, trailingZeros};
 ghost use lib.ListN.{length};
 ghost use Rattle.slots.specs.Words.{Tied};
-ghost use Rattle.rack.specs.Places.{isEmpty, freeAt};
+ghost use Rattle.rack.specs.Places.{isEmpty, freeAt, roomOf};
 ghost use Rattle.rack.specs.Sound.{owedBy, owed, soundOf};
-ghost use Rattle.rack.specs.Run.{ranOf, runFrom, runOf};
+ghost use Rattle.rack.specs.Run.{freed, ranOf, runFrom, runOf};
 ghost use Rattle.schedule.specs.Steps.{eventAt};
 ghost use Rattle.schedule.specs.Sending.{slotAfter, messageTo};
 ghost use Rattle.schedule.specs.Loop.{Most};
@@ -112,11 +112,24 @@ fn owing_after(owing: usize, before: Party, after: Party) -> usize
     owing + owed_by(after) - owed_by(before)
 }
 
+// How many slots are free after the event's was cleared and a message went to each replica of a set.
+fn room_after(room: usize, clear: bool, to: u16) -> usize
+    requires { ⌜ (ones to ≤ room + freed clear) × (room ≤ 256) ⌝ }
+    ensures { λ r. ⌜ r ≡ room + freed clear - ones to ⌝ }
+{
+    let sent = quorum::count(to) as usize;
+    if clear {
+        return room + 1 - sent;
+    }
+    room - sent
+}
+
 // ---- what the loop starts with
 
-// Which slots of the wire are free, and how many answers are owed.
+// Which slots of the wire are free, how many, and how many answers are owed.
 struct Start {
     free: [u64; 4],
+    room: usize,
     owing: usize,
 }
 
@@ -138,7 +151,7 @@ fn owed_of(rack: Rack) -> usize
 }
 
 fn start_of(rack: Rack) -> Start
-    ensures { λ s. ⌜ (Tied (freeAt (rack .wire)) (s .free)) × (s .owing ≡ owed rack) ⌝ }
+    ensures { λ s. ⌜ (Tied (freeAt (rack .wire)) (s .free)) × ((s .room ≡ roomOf (rack .wire)) × (s .owing ≡ owed rack)) ⌝ }
 {
     let mut free = [0u64; 4];
     let mut i: usize = 0;
@@ -150,6 +163,7 @@ fn start_of(rack: Rack) -> Start
     }
     Start {
         free: free,
+        room: slots::count(&free),
         owing: owed_of(rack),
     }
 }
@@ -176,10 +190,11 @@ fn ran(done: usize, refusal: u8, rack: Rack) -> Ran
 // The loop. Client, pair, power and slot are stored as planned, then the messages go to the lowest free slots in order; the entry stands last. It is one
 // function because an array of structs can't be lent: what stores into the rack stands where the rack is a local.
 fn go_on(mut r: Rack, start: Start, allowance: usize, events: &[u32]) -> Ran
-    requires { ⌜ (soundOf r ≡ true) × ((Tied (freeAt (r .wire)) (start .free)) × (start .owing ≡ owed r)) ⌝ }
+    requires { ⌜ (soundOf r ≡ true) × ((Tied (freeAt (r .wire)) (start .free)) × ((start .room ≡ roomOf (r .wire)) × (start .owing ≡ owed r))) ⌝ }
     ensures { λ q. ⌜ q ≡ runFrom 0 r allowance (now (events .entry)) ⌝ }
 {
     let mut free = start.free;
+    let mut room = start.room;
     let mut owing = start.owing;
     let wire = r.wire;
     let parties = r.parties;
@@ -200,7 +215,7 @@ fn go_on(mut r: Rack, start: Start, allowance: usize, events: &[u32]) -> Ran
         let party = r.parties[c];
         let pair = r.pairs[a];
         let planned = plan(sizes.replicas, r.power, party, pair, held, event);
-        let outcome = checked(planned, r.count + owing, slots::count(&free));
+        let outcome = checked(planned, r.count + owing, room);
         match outcome {
             Outcome::No(refusal) => {
                 return ran(i, refusal, r);
@@ -208,6 +223,7 @@ fn go_on(mut r: Rack, start: Start, allowance: usize, events: &[u32]) -> Ran
             Outcome::Go(p) => {
                 let party2 = p.party;
                 owing = owing_after(owing, party, party2);
+                room = room_after(room, p.clear, p.to);
                 r.parties[c] = party2;
                 let pair2 = p.pair;
                 r.pairs[a] = pair2;

@@ -3,7 +3,7 @@ use Prim.Native.Nat.{_-_, _≤_}
 use borrow.Author.Needs.{needs}
 use Rattle.slots.specs.Words.{Tied}
 use Rattle.slots.specs.Upto.{upTo, upto-start}
-use Rattle.rack.specs.Places.{freeAt}
+use Rattle.rack.specs.Places.{freeAt, roomOf}
 use Rattle.schedule.specs.Sending.{map-next, map-all}
 use Rattle.schedule.proofs.start_of.Statement.{statement}
 use Rattle.schedule.proofs.start_of.Tie as tie
@@ -38,11 +38,17 @@ loop-less c = search needs
 loop-again : tie.Need-loop-again Inv-loop μ-loop
 loop-again c = (search needs, map-next _ _ _ _ (c .before .is-empty .ensures) (c .mark .ensures _ (c .before .before .before .before .before .loop .inv .1)))
 
+count-requires : tie.Need-count-requires Inv-loop μ-loop
+count-requires c κs = search needs
+
 owed-of-requires : tie.Need-owed-of-requires Inv-loop μ-loop
 owed-of-requires c κs = search needs
 
 returns : tie.Need-returns Inv-loop μ-loop
-returns c = (map-all _ _ _ (c .before .before .loop .inv .0) (c .before .loop-test .left) (c .before .before .loop .inv .1), c .owed-of .ensures)
+unfolding roomOf
+returns c =
+    let t = map-all _ _ _ (c .before .before .before .before .loop .inv .0) (c .before .before .before .loop-test .left) (c .before .before .before .before .loop .inv .1) in
+    (t, (c .before .count .ensures .1 _ t, c .owed-of .ensures))
 
 pub start-of-spec : {M : Type 1} → statement M
 start-of-spec =
@@ -58,5 +64,6 @@ start-of-spec =
     add-i
     loop-less
     loop-again
+    count-requires
     owed-of-requires
     returns)
