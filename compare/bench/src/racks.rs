@@ -5,6 +5,8 @@ use compare::rack::quick::QuickRack;
 use compare::rack::timing::{self, Schedule};
 use compare::rack::words::{decode, encode};
 use compare::rack::{Rack, Ran};
+use std::fs::{self, File};
+use std::process::Command;
 use std::time::Instant;
 
 extern "C" {
@@ -61,6 +63,40 @@ fn quickest(schedule: &Schedule, events: usize, by_themselves: bool) -> (f64, f6
     (rattle, rust)
 }
 
+/// The program of crate pace does as many events as it is told, each by `schedule::step`.
+const PACE: &str = "../../target/bin/pace";
+/// Its standard input: 0 and 131,072 as seven-bit numbers.
+const NO_EVENTS: &[u8] = &[0x00];
+const MANY_EVENTS: &[u8] = &[0x80, 0x80, 0x08];
+
+/// Seconds that the program takes: the quickest of some rounds.
+fn seconds_of_pace(input: &[u8], said: &str) -> std::io::Result<f64> {
+    let path = std::env::temp_dir().join(format!("adzequarry-pace-{}", std::process::id()));
+    fs::write(&path, input)?;
+    let mut least = f64::INFINITY;
+    for _ in 0..5 {
+        let begun = Instant::now();
+        let output = Command::new(PACE).stdin(File::open(&path)?).output()?;
+        least = least.min(begun.elapsed().as_secs_f64());
+        assert_eq!(output.stdout, said.as_bytes(), "every event is done");
+    }
+    fs::remove_file(&path)?;
+    Ok(least)
+}
+
+/// What `schedule::step` costs by itself, on a rack by value, as a program of this processor does it.
+fn print_step() {
+    if !cfg!(target_arch = "x86_64") {
+        println!("schedule::step by itself: only x86-64 runs the program that does it");
+        return;
+    }
+    let seconds = || Ok::<f64, std::io::Error>(seconds_of_pace(MANY_EVENTS, "131072 events done\n")? - seconds_of_pace(NO_EVENTS, "0 events done\n")?);
+    match seconds() {
+        Ok(seconds) => println!("schedule::step by itself, on a rack by value of 5 replicas: {:.0} ns", seconds * 1e9 / 131_072.0),
+        Err(error) => println!("schedule::step by itself: {PACE}: {error}"),
+    }
+}
+
 /// Prints the times; false where the two engines don't agree.
 pub fn times() -> bool {
     println!("\n{:32} {:>7} {:>9} {:>9} {:>6}   an event by itself", "schedule", "events", "Rattle", "Rust", "ratio");
@@ -80,5 +116,6 @@ pub fn times() -> bool {
         );
     }
     println!("{:32} {:>7} {:>6.1} ns {:>6.1} ns {:>6.2}", "all", "", sums[0] / 6.0, sums[1] / 6.0, sums[0] / sums[1]);
+    print_step();
     true
 }
