@@ -41,6 +41,20 @@ taken-full taken h = lt-ltb 2048 (taken + 2) (omega arith)
 pub taken-free : (taken : ℕ) → taken ≤ 2046 → ltb 2048 (taken + 2) ≡ false
 taken-free taken h = le-ltb 2048 (taken + 2) (omega arith)
 
+pub crowded-is : (count owed : ℕ) → count ≤ 2046 → ltb (2046 - count) owed ≡ ltb 2048 (count + owed + 2)
+crowded-is count owed h = go (ltb (2046 - count) owed) refl
+  where
+    go : (t : Bool) → ltb (2046 - count) owed ≡ t → t ≡ ltb 2048 (count + owed + 2)
+    go true e = let l : 2046 - count < owed = ltb-true (2046 - count) owed e in sym (taken-full (count + owed) (omega arith))
+    go false e = let l : owed ≤ 2046 - count = ltb-false (2046 - count) owed e in sym (taken-free (count + owed) (omega arith))
+
+pub crowded-more : (count owed : ℕ) → 2046 < count → true ≡ ltb 2048 (count + owed + 2)
+crowded-more count owed h = sym (taken-full (count + owed) (omega arith))
+
+-- what the test found, of the answers owed that were counted
+pub crowded-by : (count o n : ℕ) (b t : Bool) → b ≡ ltb 2048 (count + o + 2) → o ≡ n → b ≡ t → ltb 2048 (count + n + 2) ≡ t
+crowded-by count o n b t h e g = ap (λ (k : ℕ). ltb 2048 (count + k + 2)) (sym e) ∙ sym h ∙ g
+
 -- ---- loops
 
 pub all-end : (n i : ℕ) (f : ℕ → Bool) → n ≤ i → i ≤ n → allBelow i f ≡ true → true ≡ allBelow n f

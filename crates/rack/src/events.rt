@@ -6,13 +6,16 @@ ghost use lib.Dec.{ltb};
 ghost use lib.Count.{ones};
 ghost use Rattle.number.specs.Value.{signedOf};
 ghost use Rattle.plan.specs.About.{clientIn, clientOf};
+ghost use Rattle.rack.specs.Owed.{owedIn};
 ghost use Rattle.rack.specs.Run.{byte, eventOf, inRack, slotOf, placeIn, freed, checked};
 use crate::Rack;
 use crate::Sizes;
+use crate::soundness::owed_by_all;
 use plan::Event;
 use plan::Held;
 use plan::Note;
 use plan::Outcome;
+use plan::Party;
 use record::Cell;
 use record::Client;
 use record::Replica;
@@ -260,9 +263,26 @@ fn sent(outcome: Outcome, room: usize, clear: bool, to: u16) -> Outcome
     outcome
 }
 
-// The refusals that every plan has to pass: 11 with as many entries taken, and 13 with as much room.
-pub fn checked(outcome: Outcome, taken: usize, room: usize) -> Outcome
-    ensures { λ r. ⌜ r ≡ checked outcome taken room ⌝ }
+// Whether there is no place for an entry and its answer beside the entries and the answers owed.
+fn crowded(count: usize, owed: usize) -> bool
+    ensures { λ r. ⌜ r ≡ ltb 2048 (count + owed + 2) ⌝ }
+{
+    if 2046 < count {
+        return true;
+    }
+    2046 - count < owed
+}
+
+// The refusals that every plan has to pass: 11 with as many entries and these clients, and 13 with as much room. The answers owed are counted for a start
+// alone: no other plan asks for them.
+pub fn checked(
+    outcome: Outcome,
+    count: usize,
+    parties: [Party; 8],
+    clients: u8,
+    room: usize,
+) -> Outcome
+    ensures { λ r. ⌜ r ≡ checked outcome (count + owedIn clients parties) room ⌝ }
 {
     match outcome {
         Outcome::No(k) => Outcome::No(k),
@@ -272,7 +292,7 @@ pub fn checked(outcome: Outcome, taken: usize, room: usize) -> Outcome
                 Note::Nothing => sent(outcome, room, plan.clear, plan.to),
                 Note::Ended(_) => sent(outcome, room, plan.clear, plan.to),
                 Note::Asked(_) => {
-                    if 2046 < taken {
+                    if crowded(count, owed_by_all(parties, clients)) {
                         return Outcome::No(11);
                     }
                     sent(outcome, room, plan.clear, plan.to)

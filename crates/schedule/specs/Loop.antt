@@ -1,5 +1,5 @@
 -- What the loop of a schedule knows, and one turn of it.
-use Prim.Native.Nat.{ℕ, suc, _+_, _-_, _*_, _/_, _^_, _≤_, _<_}
+use Prim.Native.Nat.{ℕ, suc, _+_, _-_, _*_, _/_, _≤_, _<_}
 use mathlib.Core.Path.{_≡_, refl, ap, sym, _∙_}
 use mathlib.Core.Bool.{Bool, true, false}
 use mathlib.Core.List.{List, [], _∷_}
@@ -26,12 +26,13 @@ use Rattle.plan.specs.declared.Outcome.the-variants.{No, Go}
 use Rattle.plan.specs.Stamp.{freshPair}
 use Rattle.plan.specs.Plan.{planOf}
 use Rattle.rack.specs.Places.{empty, idle, heldIn, freeAt, roomOf, sentOf}
-use Rattle.rack.specs.Sound.{owedBy, owed, soundOf}
+use Rattle.rack.specs.Sound.{soundOf}
+use Rattle.rack.specs.Owed.{owedIn, owed-in}
 use Rattle.plan.specs.About.{clientOf}
 use Rattle.rack.specs.Run.{inRack, slotOf, placeIn, freed, checked, decided, addressed, cleared, recorded, entriesIn, appliedOf, turn, ranOf, runFrom}
 use Rattle.rack.specs.SoundLaws.{sound-of}
-use Rattle.rack.specs.Decided.{lookedClient, lookedParty, lookedPlace, Looked, looked, Decided, decided-fits}
-use Rattle.schedule.specs.Stays.{stays, sound-stays, owed-after}
+use Rattle.rack.specs.Decided.{lookedClient, lookedPlace, Looked, looked, Decided, decided-fits}
+use Rattle.schedule.specs.Stays.{stays, sound-stays}
 use Rattle.schedule.specs.Steps.{eventAt, tried, used-up, ended}
 use Rattle.schedule.specs.Sending.{room-most, slotAfter, cleared-is, cleared-room, Sending, sending-start, sending-end, sent-long, sent-room}
 
@@ -70,20 +71,18 @@ room-after r e p d l =
 
 -- ---- what the loop knows at event i: the run from here is the whole run, and the rack is sound; its free slots and its answers owed are at hand
 
-pub record Going (self : Rack) (allowance : ℕ) (ws : List ℕ) (r : Rack) (free : List ℕ) (room owing i : ℕ) : Type 0 where
+pub record Going (self : Rack) (allowance : ℕ) (ws : List ℕ) (r : Rack) (free : List ℕ) (room i : ℕ) : Type 0 where
   pub steps : runFrom 0 self allowance ws ≡ runFrom i r (allowance - i) (drop (4 * i) ws)
   pub sound : soundOf r ≡ true
   pub tied : Tied (freeAt (r .wire)) free
   pub rooms : room ≡ roomOf (r .wire)
-  pub owes : owing ≡ owed r
   pub wire-long : length (r .wire) ≡ 256
-  pub parties-long : length (r .parties) ≡ 8
 
-pub going-start : (self : Rack) (allowance : ℕ) (ws : List ℕ) (free : List ℕ) (room owing : ℕ) → soundOf self ≡ true → Tied (freeAt (self .wire)) free → room ≡ roomOf (self .wire) → owing ≡ owed self
-    → length (self .wire) ≡ 256 → length (self .parties) ≡ 8 → Going self allowance ws self free room owing 0
-going-start self allowance ws free room owing so t m o l k =
+pub going-start : (self : Rack) (allowance : ℕ) (ws : List ℕ) (free : List ℕ) (room : ℕ) → soundOf self ≡ true → Tied (freeAt (self .wire)) free → room ≡ roomOf (self .wire)
+    → length (self .wire) ≡ 256 → Going self allowance ws self free room 0
+going-start self allowance ws free room so t m l =
     let e : allowance ≡ allowance - 0 = omega arith in
-    record { steps = ap (λ (n : ℕ). runFrom 0 self n ws) e; sound = so; tied = t; rooms = m; owes = o; wire-long = l; parties-long = k }
+    record { steps = ap (λ (n : ℕ). runFrom 0 self n ws) e; sound = so; tied = t; rooms = m; wire-long = l }
 
 -- how many events can be tried: the whole ones, as far as the allowance goes
 pub record Most (allowance words n : ℕ) : Type 0 where
@@ -97,7 +96,7 @@ pub record There (j c a : ℕ) : Type 0 where
   pub client : c < 8
   pub pair : a < 240
 
-module _ (self : Rack) (allowance : ℕ) (ws : List ℕ) (r : Rack) (free : List ℕ) (room owing i : ℕ) (g : Going self allowance ws r free room owing i) where
+module _ (self : Rack) (allowance : ℕ) (ws : List ℕ) (r : Rack) (free : List ℕ) (room i : ℕ) (g : Going self allowance ws r free room i) where
   -- the allowance is used, or the list has ended
   pub going-stop : allowance ≤ i → ranOf i 0 r ≡ runFrom 0 self allowance ws
   going-stop h = sym (g .steps ∙ used-up i r allowance i (drop (4 * i) ws) h)
@@ -148,9 +147,9 @@ module _ (self : Rack) (allowance : ℕ) (ws : List ℕ) (r : Rack) (free : List
         party = getD (r .parties) c idle;
         pair = getD (r .pairs) a freshPair;
       }) (heldIn (r .wire) j) e
-      → o ≡ checked q (r .count + owing) room → decided r e ≡ o
+      → o ≡ checked q (r .count + owedIn (r .sizes .clients) (r .parties)) room → decided r e ≡ o
   unfolding decided
-  going-plan e j c a q o h ej ec ea eq eo = sym (eo ∙ rw (eq, h, g .rooms, g .owes, ec, ea, ej))
+  going-plan e j c a q o h ej ec ea eq eo = sym (eo ∙ rw (eq, h, g .rooms, ← owed-in r, ec, ea, ej))
 
   -- its slot is full where it is emptied
   going-full : (e : Event) (j : ℕ) (p : Plan) → decided r e ≡ Go p → j ≡ slotOf e → p .clear ≡ true → freeAt (r .wire) j ≡ false
@@ -172,39 +171,22 @@ module _ (self : Rack) (allowance : ℕ) (ws : List ℕ) (r : Rack) (free : List
   unfolding appliedOf
   going-entry e p d = omega (arith, stays r e p (g .sound) d .entries)
 
-  -- the answers owed after the event
-  pub going-owes : (e : Event) (j c : ℕ) (p : Plan) → decided r e ≡ Go p → j ≡ slotOf e → c ≡ clientOf e (heldIn (r .wire) j)
-      → owed (appliedOf r e p) + owedBy (getD (r .parties) c idle) ≡ owing + owedBy (p .party)
-  going-owes e j c p d ej ec =
-      let f : Decided r e p = decided-fits r e p (g .sound) d in
-      let x : owed (appliedOf r e p) + owedBy (lookedParty r e) ≡ owed r + owedBy (p .party) =
-      owed-after r e p f (omega (arith, sound-of r (g .sound) .sizes .clients, g .parties-long)) in
-      rw (ec, ej, g .owes) x
-
-  -- so the local count of them can be kept
-  pub owing-fits : (e : Event) (j c : ℕ) (p : Plan) → decided r e ≡ Go p → j ≡ slotOf e → c ≡ clientOf e (heldIn (r .wire) j)
-      → (owedBy (getD (r .parties) c idle) ≤ owing + owedBy (p .party)) × (owing ≤ 2048)
-  owing-fits e j c p d ej ec = (omega (arith, going-owes e j c p d ej ec), omega (arith, g .owes, sound-of r (g .sound) .entries))
-
-  -- and so can that of the free slots
+  -- the count of the free slots can be kept
   pub room-fits : (e : Event) (p : Plan) → decided r e ≡ Go p → (ones (p .to) ≤ room + freed (p .clear)) × (room ≤ 256)
   room-fits e p d = (omega (arith, g .rooms, decided-fits r e p (g .sound) d .room), omega (arith, g .rooms, room-most (r .wire)))
 
   -- the next turn
-  pub going-on : (e : Event) → e ≡ eventAt ws i → (j c : ℕ) (p : Plan) (s : Rack) (after : List ℕ) (f o n : ℕ) → decided r e ≡ Go p → j ≡ slotOf e
-      → c ≡ clientOf e (heldIn (r .wire) j) → Most allowance (length ws) n → i < n → s ≡ appliedOf r e p → Tied (freeAt (s .wire)) after
-      → o ≡ owing + owedBy (p .party) - owedBy (getD (r .parties) c idle) → f ≡ room + freed (p .clear) - ones (p .to)
-      → Going self allowance ws s after f o (i + 1)
+  pub going-on : (e : Event) → e ≡ eventAt ws i → (p : Plan) (s : Rack) (after : List ℕ) (f n : ℕ) → decided r e ≡ Go p
+      → Most allowance (length ws) n → i < n → s ≡ appliedOf r e p → Tied (freeAt (s .wire)) after
+      → f ≡ room + freed (p .clear) - ones (p .to) → Going self allowance ws s after f (i + 1)
   unfolding turn
-  going-on e ee j c p s after f o n d ej ec m h es t eo ef =
+  going-on e ee p s after f n d m h es t ef =
       record {
         steps = next e ee (Go p) d (omega (arith, m .below)) (omega (arith, m .whole)) ∙ ap (λ (q : Rack). runFrom (i + 1) q (allowance - (i + 1)) (drop (4 * (i + 1)) ws)) (sym es);
         sound = ap soundOf es ∙ sound-stays r e p (g .sound) d;
         tied = t;
         rooms = omega (arith, ef, g .rooms, room-after r e p (decided-fits r e p (g .sound) d) (g .wire-long), ap (λ (q : Rack). roomOf (q .wire)) es);
-        owes = omega (arith, eo, going-owes e j c p d ej ec, ap owed es);
         wire-long = ap (λ (q : Rack). length (q .wire)) es ∙ applied-wire r e p ∙ g .wire-long;
-        parties-long = ap (λ (q : Rack). length (q .parties)) es ∙ applied-parties r e p ∙ g .parties-long;
       }
 
 -- ---- the stores of a turn are the rack after the plan

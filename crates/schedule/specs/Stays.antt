@@ -26,7 +26,7 @@ use Rattle.rack.specs.Sound.{pairFits, messageFits, heldFits, workFits, owes, o
 use Rattle.rack.specs.Run.{slotOf, decided, addressed, cleared, entriesIn, appliedOf}
 use Rattle.rack.specs.SoundLaws.{Sound, sound-of, of-sound}
 use Rattle.rack.specs.Owed.{owedIn, owed-in, owed-set}
-use Rattle.rack.specs.Decided.{lookedClient, lookedParty, lookedPlace, Decided, decided-fits}
+use Rattle.rack.specs.Decided.{lookedClient, lookedPlace, Decided, decided-fits}
 
 -- ---- stores
 
@@ -123,10 +123,3 @@ stays r e p h g =
 
 pub sound-stays : (r : Rack) (e : Event) (p : Plan) → soundOf r ≡ true → decided r e ≡ Go p → soundOf (appliedOf r e p) ≡ true
 sound-stays r e p h d = of-sound (appliedOf r e p) (stays r e p h d)
-
--- ---- its answers owed, where the client is one of the list's
-
-pub owed-after : (r : Rack) (e : Event) (p : Plan) → Decided r e p → r .sizes .clients ≤ length (r .parties)
-    → owed (appliedOf r e p) + owedBy (lookedParty r e) ≡ owed r + owedBy (p .party)
-owed-after r e p d l =
-    omega (arith, applied-owed r e p, owed-in r, owed-set (r .sizes .clients) (lookedClient r e) (r .parties) (p .party) (d .looked .client) (omega (arith, d .looked .client)))

@@ -7,7 +7,7 @@ ghost use lib.Count.{ones, trailingZeros};
 ghost use lib.ListN.{length};
 ghost use Rattle.slots.specs.Words.{Tied};
 ghost use Rattle.rack.specs.Places.{isEmpty, freeAt, roomOf};
-ghost use Rattle.rack.specs.Sound.{owedBy, owed, soundOf};
+ghost use Rattle.rack.specs.Sound.{soundOf};
 ghost use Rattle.rack.specs.Run.{freed, ranOf, runFrom, runOf};
 ghost use Rattle.schedule.specs.Steps.{eventAt};
 ghost use Rattle.schedule.specs.Sending.{slotAfter, messageTo};
@@ -17,7 +17,6 @@ use plan::Held;
 use plan::Message;
 use plan::Note;
 use plan::Outcome;
-use plan::Party;
 use plan::planning::plan;
 use rack::Line;
 use rack::Rack;
@@ -29,8 +28,6 @@ use rack::events::decode;
 use rack::events::in_rack;
 use rack::events::place_in;
 use rack::events::slot_of;
-use rack::soundness::owed_by;
-use rack::soundness::owed_by_all;
 use record::Replica;
 
 // ---- the events
@@ -104,14 +101,6 @@ fn slot_after(clear: bool, slot: Slot) -> Slot
     slot
 }
 
-// The answers owed after a client changed.
-fn owing_after(owing: usize, before: Party, after: Party) -> usize
-    requires { ⌜ (owedBy before ≤ owing + owedBy after) × (owing ≤ 2048) ⌝ }
-    ensures { λ r. ⌜ r ≡ owing + owedBy after - owedBy before ⌝ }
-{
-    owing + owed_by(after) - owed_by(before)
-}
-
 // How many slots are free after the event's was cleared and a message went to each replica of a set.
 fn room_after(room: usize, clear: bool, to: u16) -> usize
     requires { ⌜ (ones to ≤ room + freed clear) × (room ≤ 256) ⌝ }
@@ -126,11 +115,10 @@ fn room_after(room: usize, clear: bool, to: u16) -> usize
 
 // ---- what the loop starts with
 
-// Which slots of the wire are free, how many, and how many answers are owed.
+// Which slots of the wire are free, and how many.
 struct Start {
     free: [u64; 4],
     room: usize,
-    owing: usize,
 }
 
 fn is_empty(held: Held) -> bool
@@ -142,16 +130,8 @@ fn is_empty(held: Held) -> bool
     }
 }
 
-fn owed_of(rack: Rack) -> usize
-    ensures { λ r. ⌜ r ≡ owed rack ⌝ }
-{
-    let parties = rack.parties;
-    let sizes = rack.sizes;
-    owed_by_all(parties, sizes.clients)
-}
-
 fn start_of(rack: Rack) -> Start
-    ensures { λ s. ⌜ (Tied (freeAt (rack .wire)) (s .free)) × ((s .room ≡ roomOf (rack .wire)) × (s .owing ≡ owed rack)) ⌝ }
+    ensures { λ s. ⌜ (Tied (freeAt (rack .wire)) (s .free)) × (s .room ≡ roomOf (rack .wire)) ⌝ }
 {
     let mut free = [0u64; 4];
     let mut i: usize = 0;
@@ -164,13 +144,12 @@ fn start_of(rack: Rack) -> Start
     Start {
         free: free,
         room: slots::count(&free),
-        owing: owed_of(rack),
     }
 }
 
-// Says how long a rack's arrays are: only of a parameter does the check know it.
-fn lengths(wire: [Slot; Rack::SLOTS], parties: [Party; 8]) -> usize
-    ensures { λ r. ⌜ (length wire ≡ 256) × (length parties ≡ 8) ⌝ }
+// Says how long a wire is: only of a parameter does the check know it.
+fn long(wire: [Slot; Rack::SLOTS]) -> usize
+    ensures { λ r. ⌜ length wire ≡ 256 ⌝ }
 {
     0
 }
@@ -190,15 +169,13 @@ fn ran(done: usize, refusal: u8, rack: Rack) -> Ran
 // The loop. Client, pair, power and slot are stored as planned, then the messages go to the lowest free slots in order; the entry stands last. It is one
 // function because an array of structs can't be lent: what stores into the rack stands where the rack is a local.
 fn go_on(mut r: Rack, start: Start, allowance: usize, events: &[u32]) -> Ran
-    requires { ⌜ (soundOf r ≡ true) × ((Tied (freeAt (r .wire)) (start .free)) × ((start .room ≡ roomOf (r .wire)) × (start .owing ≡ owed r))) ⌝ }
+    requires { ⌜ (soundOf r ≡ true) × ((Tied (freeAt (r .wire)) (start .free)) × (start .room ≡ roomOf (r .wire))) ⌝ }
     ensures { λ q. ⌜ q ≡ runFrom 0 r allowance (now (events .entry)) ⌝ }
 {
     let mut free = start.free;
     let mut room = start.room;
-    let mut owing = start.owing;
     let wire = r.wire;
-    let parties = r.parties;
-    lengths(wire, parties);
+    long(wire);
     let n = most(allowance, events.len());
     let mut i: usize = 0;
     while i < n {
@@ -215,14 +192,14 @@ fn go_on(mut r: Rack, start: Start, allowance: usize, events: &[u32]) -> Ran
         let party = r.parties[c];
         let pair = r.pairs[a];
         let planned = plan(sizes.replicas, r.power, party, pair, held, event);
-        let outcome = checked(planned, r.count + owing, room);
+        let parties = r.parties;
+        let outcome = checked(planned, r.count, parties, sizes.clients, room);
         match outcome {
             Outcome::No(refusal) => {
                 return ran(i, refusal, r);
             }
             Outcome::Go(p) => {
                 let party2 = p.party;
-                owing = owing_after(owing, party, party2);
                 room = room_after(room, p.clear, p.to);
                 r.parties[c] = party2;
                 let pair2 = p.pair;

@@ -7,33 +7,32 @@ use native.Mathlib.Omega.{arith}
 use lib.ListN.{length}
 use lib.Pow.{pow-pos}
 use lib.Count.{trailingZeros}
-use Rattle.rack.specs.SoundLaws.{sound-of}
 use Rattle.schedule.specs.Sending.{sending-place, sending-more}
-use Rattle.schedule.specs.Loop.{Most, Going, going-start, going-out, going-no, not-there, there-slot, there, going-plan, owing-fits, room-fits, going-send, going-entry, going-on, Shipping, shipping-more, shipping-end, entry-place, asked-one, ended-one, turned-none, turned-asked, turned-ended}
+use Rattle.schedule.specs.Loop.{Most, Going, going-start, going-out, going-no, not-there, there-slot, there, going-plan, room-fits, going-send, going-entry, going-on, Shipping, shipping-more, shipping-end, entry-place, asked-one, ended-one, turned-none, turned-asked, turned-ended}
 use Rattle.schedule.proofs.go_on.Statement.{statement}
 use Rattle.schedule.proofs.go_on.Tie as tie
 
 abbrev Inv-loop2 : tie.InvT-loop2
-Inv-loop2 allowance events r₀ free₀ room owing n i j c a p message left₀ r free left = Shipping r₀ message left₀ r free left
+Inv-loop2 allowance events r₀ free₀ room n i j c a p message left₀ r free left = Shipping r₀ message left₀ r free left
 
 abbrev μ-loop2 : tie.MeasureT-loop2
-μ-loop2 allowance events r₀ free₀ room owing n i j c a p message left₀ r free left = left
+μ-loop2 allowance events r₀ free₀ room n i j c a p message left₀ r free left = left
 
 abbrev Inv-loop : tie.InvT-loop
-Inv-loop allowance events r₀ free₀ room₀ owing₀ n i₀ r free room owing i = (Most allowance (length events) n) × ((i ≤ n) × (n < 18446744073709551616)) × (Going r₀ allowance events r free room owing i)
+Inv-loop allowance events r₀ free₀ room₀ n i₀ r free room i = (Most allowance (length events) n) × ((i ≤ n) × (n < 18446744073709551616)) × (Going r₀ allowance events r free room i)
 
 abbrev μ-loop : tie.MeasureT-loop
-μ-loop allowance events r₀ free₀ room₀ owing₀ n i₀ r free room owing i = n - i
+μ-loop allowance events r₀ free₀ room₀ n i₀ r free room i = n - i
 
-lengths-requires : tie.Need-lengths-requires Inv-loop2 μ-loop2 Inv-loop μ-loop
-lengths-requires c κs = search needs
+long-requires : tie.Need-long-requires Inv-loop2 μ-loop2 Inv-loop μ-loop
+long-requires c κs = search needs
 
 most-requires : tie.Need-most-requires Inv-loop2 μ-loop2 Inv-loop μ-loop
 most-requires c κs = search needs
 
 loop-holds : tie.Need-loop-holds Inv-loop2 μ-loop2 Inv-loop μ-loop
 loop-holds c =
-    (c .most .ensures, (search needs, search needs), going-start _ _ _ _ _ _ (c .before .before .before .before .before .before .pre .0) (c .before .before .before .before .before .before .pre .1 .0) (c .before .before .before .before .before .before .pre .1 .1 .0) (c .before .before .before .before .before .before .pre .1 .1 .1) (c .before .lengths .ensures .0) (c .before .lengths .ensures .1))
+    (c .most .ensures, (search needs, search needs), going-start _ _ _ _ _ (c .before .before .before .before .before .pre .0) (c .before .before .before .before .before .pre .1 .0) (c .before .before .before .before .before .pre .1 .1) (c .before .long .ensures))
 
 event-at-requires : tie.Need-event-at-requires Inv-loop2 μ-loop2 Inv-loop μ-loop
 event-at-requires c κs = omega (arith, (c .before .loop .inv .0) .whole, (c .loop-test .taken))
@@ -47,16 +46,16 @@ ran-requires c κs = search needs
 returns : tie.Need-returns Inv-loop2 μ-loop2 Inv-loop μ-loop
 returns c =
     c .ran .ensures
-    ∙ going-no _ _ _ _ _ _ _ _ (c .before .before .before .before .before .before .loop .inv .2) _ (c .before .before .before .before .event-at .ensures) _ _ (not-there _ _ _ _ _ _ _ _ (c .before .before .before .before .before .before .loop .inv .2) _ (sym (c .before .before .in-rack .ensures) ∙ not-true _ (c .before .if1 .taken))) (c .before .before .before .before .before .before .loop .inv .0) (c .before .before .before .before .before .loop-test .taken)
+    ∙ going-no _ _ _ _ _ _ _ (c .before .before .before .before .before .before .loop .inv .2) _ (c .before .before .before .before .event-at .ensures) _ _ (not-there _ _ _ _ _ _ _ (c .before .before .before .before .before .before .loop .inv .2) _ (sym (c .before .before .in-rack .ensures) ∙ not-true _ (c .before .if1 .taken))) (c .before .before .before .before .before .before .loop .inv .0) (c .before .before .before .before .before .loop-test .taken)
 
 slot-of-requires : tie.Need-slot-of-requires Inv-loop2 μ-loop2 Inv-loop μ-loop
 slot-of-requires c κs = search needs
 
 mul-slot : tie.Need-mul-slot Inv-loop2 μ-loop2 Inv-loop μ-loop
-mul-slot c = record { fits = omega (arith, there-slot _ _ _ _ _ _ _ _ (c .before .before .before .before .before .before .loop .inv .2) _ _ (sym (c .before .before .in-rack .ensures) ∙ not-false _ (c .before .if1 .left)) (c .slot-of .ensures)) }
+mul-slot c = record { fits = omega (arith, there-slot _ _ _ _ _ _ _ (c .before .before .before .before .before .before .loop .inv .2) _ _ (sym (c .before .before .in-rack .ensures) ∙ not-false _ (c .before .if1 .left)) (c .slot-of .ensures)) }
 
 element-copy-out-slot : tie.Need-element-copy-out-slot Inv-loop2 μ-loop2 Inv-loop μ-loop
-element-copy-out-slot c = there-slot _ _ _ _ _ _ _ _ (c .before .before .before .before .before .before .loop .inv .2) _ _ (sym (c .before .before .in-rack .ensures) ∙ not-false _ (c .before .if1 .left)) (c .slot-of .ensures)
+element-copy-out-slot c = there-slot _ _ _ _ _ _ _ (c .before .before .before .before .before .before .loop .inv .2) _ _ (sym (c .before .before .in-rack .ensures) ∙ not-false _ (c .before .if1 .left)) (c .slot-of .ensures)
 
 client-of-requires : tie.Need-client-of-requires Inv-loop2 μ-loop2 Inv-loop μ-loop
 client-of-requires c κs = search needs
@@ -65,22 +64,19 @@ place-in-requires : tie.Need-place-in-requires Inv-loop2 μ-loop2 Inv-loop μ-lo
 place-in-requires c κs = search needs
 
 mul-party : tie.Need-mul-party Inv-loop2 μ-loop2 Inv-loop μ-loop
-mul-party c = record { fits = omega (arith, (there _ _ _ _ _ _ _ _ (c .before .before .before .before .before .before .before .before .before .loop .inv .2) _ _ _ _ (sym (c .before .before .before .before .before .in-rack .ensures) ∙ not-false _ (c .before .before .before .before .if1 .left)) (c .before .before .before .slot-of .ensures) (c .before .client-of .ensures) (c .place-in .ensures)) .client) }
+mul-party c = record { fits = omega (arith, (there _ _ _ _ _ _ _ (c .before .before .before .before .before .before .before .before .before .loop .inv .2) _ _ _ _ (sym (c .before .before .before .before .before .in-rack .ensures) ∙ not-false _ (c .before .before .before .before .if1 .left)) (c .before .before .before .slot-of .ensures) (c .before .client-of .ensures) (c .place-in .ensures)) .client) }
 
 element-copy-out-party : tie.Need-element-copy-out-party Inv-loop2 μ-loop2 Inv-loop μ-loop
-element-copy-out-party c = (there _ _ _ _ _ _ _ _ (c .before .before .before .before .before .before .before .before .before .loop .inv .2) _ _ _ _ (sym (c .before .before .before .before .before .in-rack .ensures) ∙ not-false _ (c .before .before .before .before .if1 .left)) (c .before .before .before .slot-of .ensures) (c .before .client-of .ensures) (c .place-in .ensures)) .client
+element-copy-out-party c = (there _ _ _ _ _ _ _ (c .before .before .before .before .before .before .before .before .before .loop .inv .2) _ _ _ _ (sym (c .before .before .before .before .before .in-rack .ensures) ∙ not-false _ (c .before .before .before .before .if1 .left)) (c .before .before .before .slot-of .ensures) (c .before .client-of .ensures) (c .place-in .ensures)) .client
 
 mul-pair : tie.Need-mul-pair Inv-loop2 μ-loop2 Inv-loop μ-loop
-mul-pair c = record { fits = omega (arith, (there _ _ _ _ _ _ _ _ (c .before .before .before .before .before .before .before .before .before .before .loop .inv .2) _ _ _ _ (sym (c .before .before .before .before .before .before .in-rack .ensures) ∙ not-false _ (c .before .before .before .before .before .if1 .left)) (c .before .before .before .before .slot-of .ensures) (c .before .before .client-of .ensures) (c .before .place-in .ensures)) .pair) }
+mul-pair c = record { fits = omega (arith, (there _ _ _ _ _ _ _ (c .before .before .before .before .before .before .before .before .before .before .loop .inv .2) _ _ _ _ (sym (c .before .before .before .before .before .before .in-rack .ensures) ∙ not-false _ (c .before .before .before .before .before .if1 .left)) (c .before .before .before .before .slot-of .ensures) (c .before .before .client-of .ensures) (c .before .place-in .ensures)) .pair) }
 
 element-copy-out-pair : tie.Need-element-copy-out-pair Inv-loop2 μ-loop2 Inv-loop μ-loop
-element-copy-out-pair c = (there _ _ _ _ _ _ _ _ (c .before .before .before .before .before .before .before .before .before .before .loop .inv .2) _ _ _ _ (sym (c .before .before .before .before .before .before .in-rack .ensures) ∙ not-false _ (c .before .before .before .before .before .if1 .left)) (c .before .before .before .before .slot-of .ensures) (c .before .before .client-of .ensures) (c .before .place-in .ensures)) .pair
+element-copy-out-pair c = (there _ _ _ _ _ _ _ (c .before .before .before .before .before .before .before .before .before .before .loop .inv .2) _ _ _ _ (sym (c .before .before .before .before .before .before .in-rack .ensures) ∙ not-false _ (c .before .before .before .before .before .if1 .left)) (c .before .before .before .before .slot-of .ensures) (c .before .before .client-of .ensures) (c .before .place-in .ensures)) .pair
 
 plan-requires : tie.Need-plan-requires Inv-loop2 μ-loop2 Inv-loop μ-loop
 plan-requires c κs = search needs
-
-add-checked : tie.Need-add-checked Inv-loop2 μ-loop2 Inv-loop μ-loop
-add-checked c = record { fits = omega (arith, (c .before .before .before .before .before .before .before .before .before .before .before .before .loop .inv .2) .owes, sound-of (c .before .before .before .before .before .before .before .before .before .before .before .before .loop .r) ((c .before .before .before .before .before .before .before .before .before .before .before .before .loop .inv .2) .sound) .entries) }
 
 checked-requires : tie.Need-checked-requires Inv-loop2 μ-loop2 Inv-loop μ-loop
 checked-requires c κs = search needs
@@ -92,49 +88,46 @@ ran-requires-2 : tie.Need-ran-requires-2 Inv-loop2 μ-loop2 Inv-loop μ-loop
 ran-requires-2 c κs = search needs
 
 returns-2 : tie.Need-returns-2 Inv-loop2 μ-loop2 Inv-loop μ-loop
-returns-2 c = c .ran2 .ensures ∙ going-no _ _ _ _ _ _ _ _ (c .before .before .before .before .before .before .before .before .before .before .before .before .before .before .before .before .before .loop .inv .2) _ (c .before .before .before .before .before .before .before .before .before .before .before .before .before .before .before .event-at .ensures) _ _ (going-plan _ _ _ _ _ _ _ _ (c .before .before .before .before .before .before .before .before .before .before .before .before .before .before .before .before .before .loop .inv .2) _ _ _ _ _ _ (sym (c .before .before .before .before .before .before .before .before .before .before .before .before .before .in-rack .ensures) ∙ not-false _ (c .before .before .before .before .before .before .before .before .before .before .before .before .if1 .left)) (c .before .before .before .before .before .before .before .before .before .before .before .slot-of .ensures) (c .before .before .before .before .before .before .before .before .before .client-of .ensures) (c .before .before .before .before .before .before .before .before .place-in .ensures) (c .before .before .before .before .before .plan .ensures) (c .before .before .before .before .checked .ensures) ∙ c .before .before .outcome .given .1) (c .before .before .before .before .before .before .before .before .before .before .before .before .before .before .before .before .before .loop .inv .0) (c .before .before .before .before .before .before .before .before .before .before .before .before .before .before .before .before .loop-test .taken)
+returns-2 c = c .ran2 .ensures ∙ going-no _ _ _ _ _ _ _ (c .before .before .before .before .before .before .before .before .before .before .before .before .before .before .before .before .before .before .loop .inv .2) _ (c .before .before .before .before .before .before .before .before .before .before .before .before .before .before .before .before .event-at .ensures) _ _ (going-plan _ _ _ _ _ _ _ (c .before .before .before .before .before .before .before .before .before .before .before .before .before .before .before .before .before .before .loop .inv .2) _ _ _ _ _ _ (sym (c .before .before .before .before .before .before .before .before .before .before .before .before .before .before .in-rack .ensures) ∙ not-false _ (c .before .before .before .before .before .before .before .before .before .before .before .before .before .if1 .left)) (c .before .before .before .before .before .before .before .before .before .before .before .before .slot-of .ensures) (c .before .before .before .before .before .before .before .before .before .before .client-of .ensures) (c .before .before .before .before .before .before .before .before .before .place-in .ensures) (c .before .before .before .before .before .before .plan .ensures) (c .before .before .before .before .checked .ensures) ∙ c .before .before .outcome .given .1) (c .before .before .before .before .before .before .before .before .before .before .before .before .before .before .before .before .before .before .loop .inv .0) (c .before .before .before .before .before .before .before .before .before .before .before .before .before .before .before .before .before .loop-test .taken)
 
 enum-known-outcome-2 : tie.Need-enum-known-outcome-2 Inv-loop2 μ-loop2 Inv-loop μ-loop
 enum-known-outcome-2 c = search needs
 
-owing-after-requires : tie.Need-owing-after-requires Inv-loop2 μ-loop2 Inv-loop μ-loop
-owing-after-requires c κs = owing-fits _ _ _ _ _ _ _ _ (c .before .before .before .before .before .before .before .before .before .before .before .before .before .before .before .before .before .loop .inv .2) _ _ _ _ (going-plan _ _ _ _ _ _ _ _ (c .before .before .before .before .before .before .before .before .before .before .before .before .before .before .before .before .before .loop .inv .2) _ _ _ _ _ _ (sym (c .before .before .before .before .before .before .before .before .before .before .before .before .before .in-rack .ensures) ∙ not-false _ (c .before .before .before .before .before .before .before .before .before .before .before .before .if1 .left)) (c .before .before .before .before .before .before .before .before .before .before .before .slot-of .ensures) (c .before .before .before .before .before .before .before .before .before .client-of .ensures) (c .before .before .before .before .before .before .before .before .place-in .ensures) (c .before .before .before .before .before .plan .ensures) (c .before .before .before .before .checked .ensures) ∙ c .before .before .outcome2 .given .1) (c .before .before .before .before .before .before .before .before .before .before .before .slot-of .ensures) (c .before .before .before .before .before .before .before .before .before .client-of .ensures)
-
 room-after-requires : tie.Need-room-after-requires Inv-loop2 μ-loop2 Inv-loop μ-loop
-room-after-requires c κs = room-fits _ _ _ _ _ _ _ _ (c .before .before .before .before .before .before .before .before .before .before .before .before .before .before .before .before .before .before .loop .inv .2) _ _ (going-plan _ _ _ _ _ _ _ _ (c .before .before .before .before .before .before .before .before .before .before .before .before .before .before .before .before .before .before .loop .inv .2) _ _ _ _ _ _ (sym (c .before .before .before .before .before .before .before .before .before .before .before .before .before .before .in-rack .ensures) ∙ not-false _ (c .before .before .before .before .before .before .before .before .before .before .before .before .before .if1 .left)) (c .before .before .before .before .before .before .before .before .before .before .before .before .slot-of .ensures) (c .before .before .before .before .before .before .before .before .before .before .client-of .ensures) (c .before .before .before .before .before .before .before .before .before .place-in .ensures) (c .before .before .before .before .before .before .plan .ensures) (c .before .before .before .before .before .checked .ensures) ∙ c .before .before .before .outcome2 .given .1)
+room-after-requires c κs = room-fits _ _ _ _ _ _ _ (c .before .before .before .before .before .before .before .before .before .before .before .before .before .before .before .before .before .before .loop .inv .2) _ _ (going-plan _ _ _ _ _ _ _ (c .before .before .before .before .before .before .before .before .before .before .before .before .before .before .before .before .before .before .loop .inv .2) _ _ _ _ _ _ (sym (c .before .before .before .before .before .before .before .before .before .before .before .before .before .before .in-rack .ensures) ∙ not-false _ (c .before .before .before .before .before .before .before .before .before .before .before .before .before .if1 .left)) (c .before .before .before .before .before .before .before .before .before .before .before .before .slot-of .ensures) (c .before .before .before .before .before .before .before .before .before .before .client-of .ensures) (c .before .before .before .before .before .before .before .before .before .place-in .ensures) (c .before .before .before .before .before .before .plan .ensures) (c .before .before .before .before .checked .ensures) ∙ c .before .before .outcome2 .given .1)
 
 mul-party2 : tie.Need-mul-party2 Inv-loop2 μ-loop2 Inv-loop μ-loop
-mul-party2 c = record { fits = omega (arith, (there _ _ _ _ _ _ _ _ (c .before .before .before .before .before .before .before .before .before .before .before .before .before .before .before .before .before .before .before .loop .inv .2) _ _ _ _ (sym (c .before .before .before .before .before .before .before .before .before .before .before .before .before .before .before .in-rack .ensures) ∙ not-false _ (c .before .before .before .before .before .before .before .before .before .before .before .before .before .before .if1 .left)) (c .before .before .before .before .before .before .before .before .before .before .before .before .before .slot-of .ensures) (c .before .before .before .before .before .before .before .before .before .before .before .client-of .ensures) (c .before .before .before .before .before .before .before .before .before .before .place-in .ensures)) .client) }
+mul-party2 c = record { fits = omega (arith, (there _ _ _ _ _ _ _ (c .before .before .before .before .before .before .before .before .before .before .before .before .before .before .before .before .before .before .before .loop .inv .2) _ _ _ _ (sym (c .before .before .before .before .before .before .before .before .before .before .before .before .before .before .before .in-rack .ensures) ∙ not-false _ (c .before .before .before .before .before .before .before .before .before .before .before .before .before .before .if1 .left)) (c .before .before .before .before .before .before .before .before .before .before .before .before .before .slot-of .ensures) (c .before .before .before .before .before .before .before .before .before .before .before .client-of .ensures) (c .before .before .before .before .before .before .before .before .before .before .place-in .ensures)) .client) }
 
 element-set-from-party2 : tie.Need-element-set-from-party2 Inv-loop2 μ-loop2 Inv-loop μ-loop
-element-set-from-party2 c = (there _ _ _ _ _ _ _ _ (c .before .before .before .before .before .before .before .before .before .before .before .before .before .before .before .before .before .before .before .loop .inv .2) _ _ _ _ (sym (c .before .before .before .before .before .before .before .before .before .before .before .before .before .before .before .in-rack .ensures) ∙ not-false _ (c .before .before .before .before .before .before .before .before .before .before .before .before .before .before .if1 .left)) (c .before .before .before .before .before .before .before .before .before .before .before .before .before .slot-of .ensures) (c .before .before .before .before .before .before .before .before .before .before .before .client-of .ensures) (c .before .before .before .before .before .before .before .before .before .before .place-in .ensures)) .client
+element-set-from-party2 c = (there _ _ _ _ _ _ _ (c .before .before .before .before .before .before .before .before .before .before .before .before .before .before .before .before .before .before .before .loop .inv .2) _ _ _ _ (sym (c .before .before .before .before .before .before .before .before .before .before .before .before .before .before .before .in-rack .ensures) ∙ not-false _ (c .before .before .before .before .before .before .before .before .before .before .before .before .before .before .if1 .left)) (c .before .before .before .before .before .before .before .before .before .before .before .before .before .slot-of .ensures) (c .before .before .before .before .before .before .before .before .before .before .before .client-of .ensures) (c .before .before .before .before .before .before .before .before .before .before .place-in .ensures)) .client
 
 mul-pair2 : tie.Need-mul-pair2 Inv-loop2 μ-loop2 Inv-loop μ-loop
-mul-pair2 c = record { fits = omega (arith, (there _ _ _ _ _ _ _ _ (c .before .before .before .before .before .before .before .before .before .before .before .before .before .before .before .before .before .before .before .before .loop .inv .2) _ _ _ _ (sym (c .before .before .before .before .before .before .before .before .before .before .before .before .before .before .before .before .in-rack .ensures) ∙ not-false _ (c .before .before .before .before .before .before .before .before .before .before .before .before .before .before .before .if1 .left)) (c .before .before .before .before .before .before .before .before .before .before .before .before .before .before .slot-of .ensures) (c .before .before .before .before .before .before .before .before .before .before .before .before .client-of .ensures) (c .before .before .before .before .before .before .before .before .before .before .before .place-in .ensures)) .pair) }
+mul-pair2 c = record { fits = omega (arith, (there _ _ _ _ _ _ _ (c .before .before .before .before .before .before .before .before .before .before .before .before .before .before .before .before .before .before .before .before .loop .inv .2) _ _ _ _ (sym (c .before .before .before .before .before .before .before .before .before .before .before .before .before .before .before .before .in-rack .ensures) ∙ not-false _ (c .before .before .before .before .before .before .before .before .before .before .before .before .before .before .before .if1 .left)) (c .before .before .before .before .before .before .before .before .before .before .before .before .before .before .slot-of .ensures) (c .before .before .before .before .before .before .before .before .before .before .before .before .client-of .ensures) (c .before .before .before .before .before .before .before .before .before .before .before .place-in .ensures)) .pair) }
 
 element-set-from-pair2 : tie.Need-element-set-from-pair2 Inv-loop2 μ-loop2 Inv-loop μ-loop
-element-set-from-pair2 c = (there _ _ _ _ _ _ _ _ (c .before .before .before .before .before .before .before .before .before .before .before .before .before .before .before .before .before .before .before .before .loop .inv .2) _ _ _ _ (sym (c .before .before .before .before .before .before .before .before .before .before .before .before .before .before .before .before .in-rack .ensures) ∙ not-false _ (c .before .before .before .before .before .before .before .before .before .before .before .before .before .before .before .if1 .left)) (c .before .before .before .before .before .before .before .before .before .before .before .before .before .before .slot-of .ensures) (c .before .before .before .before .before .before .before .before .before .before .before .before .client-of .ensures) (c .before .before .before .before .before .before .before .before .before .before .before .place-in .ensures)) .pair
+element-set-from-pair2 c = (there _ _ _ _ _ _ _ (c .before .before .before .before .before .before .before .before .before .before .before .before .before .before .before .before .before .before .before .before .loop .inv .2) _ _ _ _ (sym (c .before .before .before .before .before .before .before .before .before .before .before .before .before .before .before .before .in-rack .ensures) ∙ not-false _ (c .before .before .before .before .before .before .before .before .before .before .before .before .before .before .before .if1 .left)) (c .before .before .before .before .before .before .before .before .before .before .before .before .before .before .slot-of .ensures) (c .before .before .before .before .before .before .before .before .before .before .before .before .client-of .ensures) (c .before .before .before .before .before .before .before .before .before .before .before .place-in .ensures)) .pair
 
 mul-old : tie.Need-mul-old Inv-loop2 μ-loop2 Inv-loop μ-loop
-mul-old c = record { fits = omega (arith, (there _ _ _ _ _ _ _ _ (c .before .before .before .before .before .before .before .before .before .before .before .before .before .before .before .before .before .before .before .before .loop .inv .2) _ _ _ _ (sym (c .before .before .before .before .before .before .before .before .before .before .before .before .before .before .before .before .in-rack .ensures) ∙ not-false _ (c .before .before .before .before .before .before .before .before .before .before .before .before .before .before .before .if1 .left)) (c .before .before .before .before .before .before .before .before .before .before .before .before .before .before .slot-of .ensures) (c .before .before .before .before .before .before .before .before .before .before .before .before .client-of .ensures) (c .before .before .before .before .before .before .before .before .before .before .before .place-in .ensures)) .slot) }
+mul-old c = record { fits = omega (arith, (there _ _ _ _ _ _ _ (c .before .before .before .before .before .before .before .before .before .before .before .before .before .before .before .before .before .before .before .before .loop .inv .2) _ _ _ _ (sym (c .before .before .before .before .before .before .before .before .before .before .before .before .before .before .before .before .in-rack .ensures) ∙ not-false _ (c .before .before .before .before .before .before .before .before .before .before .before .before .before .before .before .if1 .left)) (c .before .before .before .before .before .before .before .before .before .before .before .before .before .before .slot-of .ensures) (c .before .before .before .before .before .before .before .before .before .before .before .before .client-of .ensures) (c .before .before .before .before .before .before .before .before .before .before .before .place-in .ensures)) .slot) }
 
 element-copy-out-old : tie.Need-element-copy-out-old Inv-loop2 μ-loop2 Inv-loop μ-loop
-element-copy-out-old c = (there _ _ _ _ _ _ _ _ (c .before .before .before .before .before .before .before .before .before .before .before .before .before .before .before .before .before .before .before .before .loop .inv .2) _ _ _ _ (sym (c .before .before .before .before .before .before .before .before .before .before .before .before .before .before .before .before .in-rack .ensures) ∙ not-false _ (c .before .before .before .before .before .before .before .before .before .before .before .before .before .before .before .if1 .left)) (c .before .before .before .before .before .before .before .before .before .before .before .before .before .before .slot-of .ensures) (c .before .before .before .before .before .before .before .before .before .before .before .before .client-of .ensures) (c .before .before .before .before .before .before .before .before .before .before .before .place-in .ensures)) .slot
+element-copy-out-old c = (there _ _ _ _ _ _ _ (c .before .before .before .before .before .before .before .before .before .before .before .before .before .before .before .before .before .before .before .before .loop .inv .2) _ _ _ _ (sym (c .before .before .before .before .before .before .before .before .before .before .before .before .before .before .before .before .in-rack .ensures) ∙ not-false _ (c .before .before .before .before .before .before .before .before .before .before .before .before .before .before .before .if1 .left)) (c .before .before .before .before .before .before .before .before .before .before .before .before .before .before .slot-of .ensures) (c .before .before .before .before .before .before .before .before .before .before .before .before .client-of .ensures) (c .before .before .before .before .before .before .before .before .before .before .before .place-in .ensures)) .slot
 
 slot-after-requires : tie.Need-slot-after-requires Inv-loop2 μ-loop2 Inv-loop μ-loop
 slot-after-requires c κs = search needs
 
-mul-t56 : tie.Need-mul-t56 Inv-loop2 μ-loop2 Inv-loop μ-loop
-mul-t56 c = record { fits = omega (arith, (there _ _ _ _ _ _ _ _ (c .before .before .before .before .before .before .before .before .before .before .before .before .before .before .before .before .before .before .before .before .before .before .loop .inv .2) _ _ _ _ (sym (c .before .before .before .before .before .before .before .before .before .before .before .before .before .before .before .before .before .before .in-rack .ensures) ∙ not-false _ (c .before .before .before .before .before .before .before .before .before .before .before .before .before .before .before .before .before .if1 .left)) (c .before .before .before .before .before .before .before .before .before .before .before .before .before .before .before .before .slot-of .ensures) (c .before .before .before .before .before .before .before .before .before .before .before .before .before .before .client-of .ensures) (c .before .before .before .before .before .before .before .before .before .before .before .before .before .place-in .ensures)) .slot) }
+mul-t54 : tie.Need-mul-t54 Inv-loop2 μ-loop2 Inv-loop μ-loop
+mul-t54 c = record { fits = omega (arith, (there _ _ _ _ _ _ _ (c .before .before .before .before .before .before .before .before .before .before .before .before .before .before .before .before .before .before .before .before .before .before .loop .inv .2) _ _ _ _ (sym (c .before .before .before .before .before .before .before .before .before .before .before .before .before .before .before .before .before .before .in-rack .ensures) ∙ not-false _ (c .before .before .before .before .before .before .before .before .before .before .before .before .before .before .before .before .before .if1 .left)) (c .before .before .before .before .before .before .before .before .before .before .before .before .before .before .before .before .slot-of .ensures) (c .before .before .before .before .before .before .before .before .before .before .before .before .before .before .client-of .ensures) (c .before .before .before .before .before .before .before .before .before .before .before .before .before .place-in .ensures)) .slot) }
 
 element-set-from-r : tie.Need-element-set-from-r Inv-loop2 μ-loop2 Inv-loop μ-loop
-element-set-from-r c = (there _ _ _ _ _ _ _ _ (c .before .before .before .before .before .before .before .before .before .before .before .before .before .before .before .before .before .before .before .before .before .before .loop .inv .2) _ _ _ _ (sym (c .before .before .before .before .before .before .before .before .before .before .before .before .before .before .before .before .before .before .in-rack .ensures) ∙ not-false _ (c .before .before .before .before .before .before .before .before .before .before .before .before .before .before .before .before .before .if1 .left)) (c .before .before .before .before .before .before .before .before .before .before .before .before .before .before .before .before .slot-of .ensures) (c .before .before .before .before .before .before .before .before .before .before .before .before .before .before .client-of .ensures) (c .before .before .before .before .before .before .before .before .before .before .before .before .before .place-in .ensures)) .slot
+element-set-from-r c = (there _ _ _ _ _ _ _ (c .before .before .before .before .before .before .before .before .before .before .before .before .before .before .before .before .before .before .before .before .before .before .loop .inv .2) _ _ _ _ (sym (c .before .before .before .before .before .before .before .before .before .before .before .before .before .before .before .before .before .before .in-rack .ensures) ∙ not-false _ (c .before .before .before .before .before .before .before .before .before .before .before .before .before .before .before .before .before .if1 .left)) (c .before .before .before .before .before .before .before .before .before .before .before .before .before .before .before .before .slot-of .ensures) (c .before .before .before .before .before .before .before .before .before .before .before .before .before .before .client-of .ensures) (c .before .before .before .before .before .before .before .before .before .before .before .before .before .place-in .ensures)) .slot
 
 mark-requires : tie.Need-mark-requires Inv-loop2 μ-loop2 Inv-loop μ-loop
 mark-requires c κs = search needs
 
 loop2-holds : tie.Need-loop2-holds Inv-loop2 μ-loop2 Inv-loop μ-loop
-loop2-holds c = record { same = refl; send = going-send _ _ _ _ _ _ _ _ (c .before .before .before .before .before .before .before .before .before .before .before .before .before .before .before .before .before .before .before .before .before .before .before .before .before .loop .inv .2) _ _ (c .before .before .before .before .before .before .before .before .before .before .outcome2 .given .0 .0) _ _ (going-plan _ _ _ _ _ _ _ _ (c .before .before .before .before .before .before .before .before .before .before .before .before .before .before .before .before .before .before .before .before .before .before .before .before .before .loop .inv .2) _ _ _ _ _ _ (sym (c .before .before .before .before .before .before .before .before .before .before .before .before .before .before .before .before .before .before .before .before .before .in-rack .ensures) ∙ not-false _ (c .before .before .before .before .before .before .before .before .before .before .before .before .before .before .before .before .before .before .before .before .if1 .left)) (c .before .before .before .before .before .before .before .before .before .before .before .before .before .before .before .before .before .before .before .slot-of .ensures) (c .before .before .before .before .before .before .before .before .before .before .before .before .before .before .before .before .before .client-of .ensures) (c .before .before .before .before .before .before .before .before .before .before .before .before .before .before .before .before .place-in .ensures) (c .before .before .before .before .before .before .before .before .before .before .before .before .before .plan .ensures) (c .before .before .before .before .before .before .before .before .before .before .before .before .checked .ensures) ∙ c .before .before .before .before .before .before .before .before .before .before .outcome2 .given .1) (c .before .before .before .before .before .before .before .before .before .before .before .before .before .before .before .before .before .before .before .slot-of .ensures) (c .before .before .before .slot-after .ensures) (c .before .mark .ensures) }
+loop2-holds c = record { same = refl; send = going-send _ _ _ _ _ _ _ (c .before .before .before .before .before .before .before .before .before .before .before .before .before .before .before .before .before .before .before .before .before .before .before .before .before .loop .inv .2) _ _ (c .before .before .before .before .before .before .before .before .before .outcome2 .given .0 .0) _ _ (going-plan _ _ _ _ _ _ _ (c .before .before .before .before .before .before .before .before .before .before .before .before .before .before .before .before .before .before .before .before .before .before .before .before .before .loop .inv .2) _ _ _ _ _ _ (sym (c .before .before .before .before .before .before .before .before .before .before .before .before .before .before .before .before .before .before .before .before .before .in-rack .ensures) ∙ not-false _ (c .before .before .before .before .before .before .before .before .before .before .before .before .before .before .before .before .before .before .before .before .if1 .left)) (c .before .before .before .before .before .before .before .before .before .before .before .before .before .before .before .before .before .before .before .slot-of .ensures) (c .before .before .before .before .before .before .before .before .before .before .before .before .before .before .before .before .before .client-of .ensures) (c .before .before .before .before .before .before .before .before .before .before .before .before .before .before .before .before .place-in .ensures) (c .before .before .before .before .before .before .before .before .before .before .before .before .before .plan .ensures) (c .before .before .before .before .before .before .before .before .before .before .before .checked .ensures) ∙ c .before .before .before .before .before .before .before .before .before .outcome2 .given .1) (c .before .before .before .before .before .before .before .before .before .before .before .before .before .before .before .before .before .before .before .slot-of .ensures) (c .before .before .before .slot-after .ensures) (c .before .mark .ensures) }
 
 lowest-requires : tie.Need-lowest-requires Inv-loop2 μ-loop2 Inv-loop μ-loop
 lowest-requires c κs = search needs
@@ -148,8 +141,8 @@ others-requires c κs = search needs
 take-requires : tie.Need-take-requires Inv-loop2 μ-loop2 Inv-loop μ-loop
 take-requires c κs = search needs
 
-mul-t72 : tie.Need-mul-t72 Inv-loop2 μ-loop2 Inv-loop μ-loop
-mul-t72 c = record { fits = omega (arith, sending-place _ _ _ _ _ _ _ ((c .before .before .before .before .before .before .loop2 .inv) .send) (c .before .before .before .before .before .loop2-test .taken) _ _ (c .take .ensures .1 _ ((c .before .before .before .before .before .before .loop2 .inv) .send .tied))) }
+mul-t70 : tie.Need-mul-t70 Inv-loop2 μ-loop2 Inv-loop μ-loop
+mul-t70 c = record { fits = omega (arith, sending-place _ _ _ _ _ _ _ ((c .before .before .before .before .before .before .loop2 .inv) .send) (c .before .before .before .before .before .loop2-test .taken) _ _ (c .take .ensures .1 _ ((c .before .before .before .before .before .before .loop2 .inv) .send .tied))) }
 
 element-set-from-r-2 : tie.Need-element-set-from-r-2 Inv-loop2 μ-loop2 Inv-loop μ-loop
 element-set-from-r-2 c = sending-place _ _ _ _ _ _ _ ((c .before .before .before .before .before .before .loop2 .inv) .send) (c .before .before .before .before .before .loop2-test .taken) _ _ (c .take .ensures .1 _ ((c .before .before .before .before .before .before .loop2 .inv) .send .tied))
@@ -175,22 +168,20 @@ loop-again : tie.Need-loop-again Inv-loop2 μ-loop2 Inv-loop μ-loop
 loop-again c = (
   (c .before .before .before .before .before .before .before .before .before .before .before .before .before .before .before .before .before .before .before .before .before .before .before .before .before .before .before .before .before .loop .inv .0),
   (omega (arith, (c .before .before .before .before .before .before .before .before .before .before .before .before .before .before .before .before .before .before .before .before .before .before .before .before .before .before .before .before .loop-test .taken)), c .before .before .before .before .before .before .before .before .before .before .before .before .before .before .before .before .before .before .before .before .before .before .before .before .before .before .before .before .before .loop .inv .1 .1),
-  going-on _ _ _ _ _ _ _ _ (c .before .before .before .before .before .before .before .before .before .before .before .before .before .before .before .before .before .before .before .before .before .before .before .before .before .before .before .before .before .loop .inv .2) _ (c .before .before .before .before .before .before .before .before .before .before .before .before .before .before .before .before .before .before .before .before .before .before .before .before .before .before .before .event-at .ensures) _ _ (c .before .before .before .before .before .before .before .before .before .before .before .before .before .before .outcome2 .given .0 .0) _ _ _ _ _ (going-plan _ _ _ _ _ _ _ _ (c .before .before .before .before .before .before .before .before .before .before .before .before .before .before .before .before .before .before .before .before .before .before .before .before .before .before .before .before .before .loop .inv .2) _ _ _ _ _ _ (sym (c .before .before .before .before .before .before .before .before .before .before .before .before .before .before .before .before .before .before .before .before .before .before .before .before .before .in-rack .ensures) ∙ not-false _ (c .before .before .before .before .before .before .before .before .before .before .before .before .before .before .before .before .before .before .before .before .before .before .before .before .if1 .left)) (c .before .before .before .before .before .before .before .before .before .before .before .before .before .before .before .before .before .before .before .before .before .before .before .slot-of .ensures) (c .before .before .before .before .before .before .before .before .before .before .before .before .before .before .before .before .before .before .before .before .before .client-of .ensures) (c .before .before .before .before .before .before .before .before .before .before .before .before .before .before .before .before .before .before .before .before .place-in .ensures) (c .before .before .before .before .before .before .before .before .before .before .before .before .before .before .before .before .before .plan .ensures) (c .before .before .before .before .before .before .before .before .before .before .before .before .before .before .before .before .checked .ensures) ∙ c .before .before .before .before .before .before .before .before .before .before .before .before .before .before .outcome2 .given .1) (c .before .before .before .before .before .before .before .before .before .before .before .before .before .before .before .before .before .before .before .before .before .before .before .slot-of .ensures) (c .before .before .before .before .before .before .before .before .before .before .before .before .before .before .before .before .before .before .before .before .before .client-of .ensures) (c .before .before .before .before .before .before .before .before .before .before .before .before .before .before .before .before .before .before .before .before .before .before .before .before .before .before .before .before .before .loop .inv .0) (c .before .before .before .before .before .before .before .before .before .before .before .before .before .before .before .before .before .before .before .before .before .before .before .before .before .before .before .before .loop-test .taken)
-      (turned-none (c .before .before .before .before .before .before .before .before .before .before .before .before .before .before .before .before .before .before .before .before .before .before .before .before .before .before .before .before .before .loop .r) _ (c .before .before .before .before .before .before .before .before .before .before .before .before .before .before .outcome2 .given .0 .0) _ _ _ _ _ (c .before .before .before .before .before .before .before .before .before .before .before .before .before .before .before .before .before .before .before .before .before .before .before .slot-of .ensures) (c .before .before .before .before .before .before .before .before .before .before .before .before .before .before .before .before .before .before .before .before .before .client-of .ensures) (c .before .before .before .before .before .before .before .before .before .before .before .before .before .before .before .before .before .before .before .before .place-in .ensures) (c .before .before .before .before .before .before .before .slot-after .ensures) (c .enum-told .given .1) (shipping-end _ _ _ _ _ _ (c .before .before .before .loop2 .inv) (omega (arith, c .before .before .loop2-test .left))))
-      ((c .before .before .before .loop2 .inv) .send .tied) (c .before .before .before .before .before .before .before .before .before .before .before .owing-after .ensures) (c .before .before .before .before .before .before .before .before .before .before .room-after .ensures),
+  going-on _ _ _ _ _ _ _ (c .before .before .before .before .before .before .before .before .before .before .before .before .before .before .before .before .before .before .before .before .before .before .before .before .before .before .before .before .before .loop .inv .2) _ (c .before .before .before .before .before .before .before .before .before .before .before .before .before .before .before .before .before .before .before .before .before .before .before .before .before .before .before .event-at .ensures) (c .before .before .before .before .before .before .before .before .before .before .before .before .before .outcome2 .given .0 .0) _ _ _ _ (going-plan _ _ _ _ _ _ _ (c .before .before .before .before .before .before .before .before .before .before .before .before .before .before .before .before .before .before .before .before .before .before .before .before .before .before .before .before .before .loop .inv .2) _ _ _ _ _ _ (sym (c .before .before .before .before .before .before .before .before .before .before .before .before .before .before .before .before .before .before .before .before .before .before .before .before .before .in-rack .ensures) ∙ not-false _ (c .before .before .before .before .before .before .before .before .before .before .before .before .before .before .before .before .before .before .before .before .before .before .before .before .if1 .left)) (c .before .before .before .before .before .before .before .before .before .before .before .before .before .before .before .before .before .before .before .before .before .before .before .slot-of .ensures) (c .before .before .before .before .before .before .before .before .before .before .before .before .before .before .before .before .before .before .before .before .before .client-of .ensures) (c .before .before .before .before .before .before .before .before .before .before .before .before .before .before .before .before .before .before .before .before .place-in .ensures) (c .before .before .before .before .before .before .before .before .before .before .before .before .before .before .before .before .before .plan .ensures) (c .before .before .before .before .before .before .before .before .before .before .before .before .before .before .before .checked .ensures) ∙ c .before .before .before .before .before .before .before .before .before .before .before .before .before .outcome2 .given .1) (c .before .before .before .before .before .before .before .before .before .before .before .before .before .before .before .before .before .before .before .before .before .before .before .before .before .before .before .before .before .loop .inv .0) (c .before .before .before .before .before .before .before .before .before .before .before .before .before .before .before .before .before .before .before .before .before .before .before .before .before .before .before .before .loop-test .taken) (turned-none (c .before .before .before .before .before .before .before .before .before .before .before .before .before .before .before .before .before .before .before .before .before .before .before .before .before .before .before .before .before .loop .r) _ (c .before .before .before .before .before .before .before .before .before .before .before .before .before .outcome2 .given .0 .0) _ _ _ _ _ (c .before .before .before .before .before .before .before .before .before .before .before .before .before .before .before .before .before .before .before .before .before .before .before .slot-of .ensures) (c .before .before .before .before .before .before .before .before .before .before .before .before .before .before .before .before .before .before .before .before .before .client-of .ensures) (c .before .before .before .before .before .before .before .before .before .before .before .before .before .before .before .before .before .before .before .before .place-in .ensures) (c .before .before .before .before .before .before .before .slot-after .ensures) (c .enum-told .given .1) (shipping-end _ _ _ _ _ _ (c .before .before .before .loop2 .inv) (omega (arith, c .before .before .loop2-test .left)))) ((c .before .before .before .loop2 .inv) .send .tied) (c .before .before .before .before .before .before .before .before .before .before .room-after .ensures),
 )
 
 enum-known-note : tie.Need-enum-known-note Inv-loop2 μ-loop2 Inv-loop μ-loop
 enum-known-note c = search needs
 
-mul-t76 : tie.Need-mul-t76 Inv-loop2 μ-loop2 Inv-loop μ-loop
-mul-t76 c = record { fits = omega (arith, entry-place _ _ _ _ _ _ (c .before .before .before .before .loop2 .inv) ((c .before .before .before .before .before .before .before .before .before .before .before .before .before .before .before .outcome2 .given .0 .0) .note) (asked-one _ _ (c .before .note .given .1)) (going-entry _ _ _ _ _ _ _ _ (c .before .before .before .before .before .before .before .before .before .before .before .before .before .before .before .before .before .before .before .before .before .before .before .before .before .before .before .before .before .before .loop .inv .2) _ (c .before .before .before .before .before .before .before .before .before .before .before .before .before .before .before .outcome2 .given .0 .0) (going-plan _ _ _ _ _ _ _ _ (c .before .before .before .before .before .before .before .before .before .before .before .before .before .before .before .before .before .before .before .before .before .before .before .before .before .before .before .before .before .before .loop .inv .2) _ _ _ _ _ _ (sym (c .before .before .before .before .before .before .before .before .before .before .before .before .before .before .before .before .before .before .before .before .before .before .before .before .before .before .in-rack .ensures) ∙ not-false _ (c .before .before .before .before .before .before .before .before .before .before .before .before .before .before .before .before .before .before .before .before .before .before .before .before .before .if1 .left)) (c .before .before .before .before .before .before .before .before .before .before .before .before .before .before .before .before .before .before .before .before .before .before .before .before .slot-of .ensures) (c .before .before .before .before .before .before .before .before .before .before .before .before .before .before .before .before .before .before .before .before .before .before .client-of .ensures) (c .before .before .before .before .before .before .before .before .before .before .before .before .before .before .before .before .before .before .before .before .before .place-in .ensures) (c .before .before .before .before .before .before .before .before .before .before .before .before .before .before .before .before .before .before .plan .ensures) (c .before .before .before .before .before .before .before .before .before .before .before .before .before .before .before .before .before .checked .ensures) ∙ c .before .before .before .before .before .before .before .before .before .before .before .before .before .before .before .outcome2 .given .1))) }
+mul-t74 : tie.Need-mul-t74 Inv-loop2 μ-loop2 Inv-loop μ-loop
+mul-t74 c = record { fits = omega (arith, entry-place _ _ _ _ _ _ (c .before .before .before .before .loop2 .inv) ((c .before .before .before .before .before .before .before .before .before .before .before .before .before .before .outcome2 .given .0 .0) .note) (asked-one _ _ (c .before .note .given .1)) (going-entry _ _ _ _ _ _ _ (c .before .before .before .before .before .before .before .before .before .before .before .before .before .before .before .before .before .before .before .before .before .before .before .before .before .before .before .before .before .before .loop .inv .2) _ (c .before .before .before .before .before .before .before .before .before .before .before .before .before .before .outcome2 .given .0 .0) (going-plan _ _ _ _ _ _ _ (c .before .before .before .before .before .before .before .before .before .before .before .before .before .before .before .before .before .before .before .before .before .before .before .before .before .before .before .before .before .before .loop .inv .2) _ _ _ _ _ _ (sym (c .before .before .before .before .before .before .before .before .before .before .before .before .before .before .before .before .before .before .before .before .before .before .before .before .before .before .in-rack .ensures) ∙ not-false _ (c .before .before .before .before .before .before .before .before .before .before .before .before .before .before .before .before .before .before .before .before .before .before .before .before .before .if1 .left)) (c .before .before .before .before .before .before .before .before .before .before .before .before .before .before .before .before .before .before .before .before .before .before .before .before .slot-of .ensures) (c .before .before .before .before .before .before .before .before .before .before .before .before .before .before .before .before .before .before .before .before .before .before .client-of .ensures) (c .before .before .before .before .before .before .before .before .before .before .before .before .before .before .before .before .before .before .before .before .before .place-in .ensures) (c .before .before .before .before .before .before .before .before .before .before .before .before .before .before .before .before .before .before .plan .ensures) (c .before .before .before .before .before .before .before .before .before .before .before .before .before .before .before .before .checked .ensures) ∙ c .before .before .before .before .before .before .before .before .before .before .before .before .before .before .outcome2 .given .1))) }
 
 element-set-from-r-3 : tie.Need-element-set-from-r-3 Inv-loop2 μ-loop2 Inv-loop μ-loop
-element-set-from-r-3 c = entry-place _ _ _ _ _ _ (c .before .before .before .before .loop2 .inv) ((c .before .before .before .before .before .before .before .before .before .before .before .before .before .before .before .outcome2 .given .0 .0) .note) (asked-one _ _ (c .before .note .given .1)) (going-entry _ _ _ _ _ _ _ _ (c .before .before .before .before .before .before .before .before .before .before .before .before .before .before .before .before .before .before .before .before .before .before .before .before .before .before .before .before .before .before .loop .inv .2) _ (c .before .before .before .before .before .before .before .before .before .before .before .before .before .before .before .outcome2 .given .0 .0) (going-plan _ _ _ _ _ _ _ _ (c .before .before .before .before .before .before .before .before .before .before .before .before .before .before .before .before .before .before .before .before .before .before .before .before .before .before .before .before .before .before .loop .inv .2) _ _ _ _ _ _ (sym (c .before .before .before .before .before .before .before .before .before .before .before .before .before .before .before .before .before .before .before .before .before .before .before .before .before .before .in-rack .ensures) ∙ not-false _ (c .before .before .before .before .before .before .before .before .before .before .before .before .before .before .before .before .before .before .before .before .before .before .before .before .before .if1 .left)) (c .before .before .before .before .before .before .before .before .before .before .before .before .before .before .before .before .before .before .before .before .before .before .before .before .slot-of .ensures) (c .before .before .before .before .before .before .before .before .before .before .before .before .before .before .before .before .before .before .before .before .before .before .client-of .ensures) (c .before .before .before .before .before .before .before .before .before .before .before .before .before .before .before .before .before .before .before .before .before .place-in .ensures) (c .before .before .before .before .before .before .before .before .before .before .before .before .before .before .before .before .before .before .plan .ensures) (c .before .before .before .before .before .before .before .before .before .before .before .before .before .before .before .before .before .checked .ensures) ∙ c .before .before .before .before .before .before .before .before .before .before .before .before .before .before .before .outcome2 .given .1))
+element-set-from-r-3 c = entry-place _ _ _ _ _ _ (c .before .before .before .before .loop2 .inv) ((c .before .before .before .before .before .before .before .before .before .before .before .before .before .before .outcome2 .given .0 .0) .note) (asked-one _ _ (c .before .note .given .1)) (going-entry _ _ _ _ _ _ _ (c .before .before .before .before .before .before .before .before .before .before .before .before .before .before .before .before .before .before .before .before .before .before .before .before .before .before .before .before .before .before .loop .inv .2) _ (c .before .before .before .before .before .before .before .before .before .before .before .before .before .before .outcome2 .given .0 .0) (going-plan _ _ _ _ _ _ _ (c .before .before .before .before .before .before .before .before .before .before .before .before .before .before .before .before .before .before .before .before .before .before .before .before .before .before .before .before .before .before .loop .inv .2) _ _ _ _ _ _ (sym (c .before .before .before .before .before .before .before .before .before .before .before .before .before .before .before .before .before .before .before .before .before .before .before .before .before .before .in-rack .ensures) ∙ not-false _ (c .before .before .before .before .before .before .before .before .before .before .before .before .before .before .before .before .before .before .before .before .before .before .before .before .before .if1 .left)) (c .before .before .before .before .before .before .before .before .before .before .before .before .before .before .before .before .before .before .before .before .before .before .before .before .slot-of .ensures) (c .before .before .before .before .before .before .before .before .before .before .before .before .before .before .before .before .before .before .before .before .before .before .client-of .ensures) (c .before .before .before .before .before .before .before .before .before .before .before .before .before .before .before .before .before .before .before .before .before .place-in .ensures) (c .before .before .before .before .before .before .before .before .before .before .before .before .before .before .before .before .before .before .plan .ensures) (c .before .before .before .before .before .before .before .before .before .before .before .before .before .before .before .before .checked .ensures) ∙ c .before .before .before .before .before .before .before .before .before .before .before .before .before .before .outcome2 .given .1))
 
 add-r : tie.Need-add-r Inv-loop2 μ-loop2 Inv-loop μ-loop
-add-r c = record { fits = omega (arith, entry-place _ _ _ _ _ _ (c .before .before .before .before .loop2 .inv) ((c .before .before .before .before .before .before .before .before .before .before .before .before .before .before .before .outcome2 .given .0 .0) .note) (asked-one _ _ (c .before .note .given .1)) (going-entry _ _ _ _ _ _ _ _ (c .before .before .before .before .before .before .before .before .before .before .before .before .before .before .before .before .before .before .before .before .before .before .before .before .before .before .before .before .before .before .loop .inv .2) _ (c .before .before .before .before .before .before .before .before .before .before .before .before .before .before .before .outcome2 .given .0 .0) (going-plan _ _ _ _ _ _ _ _ (c .before .before .before .before .before .before .before .before .before .before .before .before .before .before .before .before .before .before .before .before .before .before .before .before .before .before .before .before .before .before .loop .inv .2) _ _ _ _ _ _ (sym (c .before .before .before .before .before .before .before .before .before .before .before .before .before .before .before .before .before .before .before .before .before .before .before .before .before .before .in-rack .ensures) ∙ not-false _ (c .before .before .before .before .before .before .before .before .before .before .before .before .before .before .before .before .before .before .before .before .before .before .before .before .before .if1 .left)) (c .before .before .before .before .before .before .before .before .before .before .before .before .before .before .before .before .before .before .before .before .before .before .before .before .slot-of .ensures) (c .before .before .before .before .before .before .before .before .before .before .before .before .before .before .before .before .before .before .before .before .before .before .client-of .ensures) (c .before .before .before .before .before .before .before .before .before .before .before .before .before .before .before .before .before .before .before .before .before .place-in .ensures) (c .before .before .before .before .before .before .before .before .before .before .before .before .before .before .before .before .before .before .plan .ensures) (c .before .before .before .before .before .before .before .before .before .before .before .before .before .before .before .before .before .checked .ensures) ∙ c .before .before .before .before .before .before .before .before .before .before .before .before .before .before .before .outcome2 .given .1))) }
+add-r c = record { fits = omega (arith, entry-place _ _ _ _ _ _ (c .before .before .before .before .loop2 .inv) ((c .before .before .before .before .before .before .before .before .before .before .before .before .before .before .outcome2 .given .0 .0) .note) (asked-one _ _ (c .before .note .given .1)) (going-entry _ _ _ _ _ _ _ (c .before .before .before .before .before .before .before .before .before .before .before .before .before .before .before .before .before .before .before .before .before .before .before .before .before .before .before .before .before .before .loop .inv .2) _ (c .before .before .before .before .before .before .before .before .before .before .before .before .before .before .outcome2 .given .0 .0) (going-plan _ _ _ _ _ _ _ (c .before .before .before .before .before .before .before .before .before .before .before .before .before .before .before .before .before .before .before .before .before .before .before .before .before .before .before .before .before .before .loop .inv .2) _ _ _ _ _ _ (sym (c .before .before .before .before .before .before .before .before .before .before .before .before .before .before .before .before .before .before .before .before .before .before .before .before .before .before .in-rack .ensures) ∙ not-false _ (c .before .before .before .before .before .before .before .before .before .before .before .before .before .before .before .before .before .before .before .before .before .before .before .before .before .if1 .left)) (c .before .before .before .before .before .before .before .before .before .before .before .before .before .before .before .before .before .before .before .before .before .before .before .before .slot-of .ensures) (c .before .before .before .before .before .before .before .before .before .before .before .before .before .before .before .before .before .before .before .before .before .before .client-of .ensures) (c .before .before .before .before .before .before .before .before .before .before .before .before .before .before .before .before .before .before .before .before .before .place-in .ensures) (c .before .before .before .before .before .before .before .before .before .before .before .before .before .before .before .before .before .before .plan .ensures) (c .before .before .before .before .before .before .before .before .before .before .before .before .before .before .before .before .checked .ensures) ∙ c .before .before .before .before .before .before .before .before .before .before .before .before .before .before .outcome2 .given .1))) }
 
 loop-less-2 : tie.Need-loop-less-2 Inv-loop2 μ-loop2 Inv-loop μ-loop
 loop-less-2 c = omega (arith, (c .before .before .before .before .before .before .before .before .before .before .before .before .before .before .before .before .before .before .before .before .before .before .before .before .before .before .before .before .before .loop-test .taken))
@@ -199,22 +190,20 @@ loop-again-2 : tie.Need-loop-again-2 Inv-loop2 μ-loop2 Inv-loop μ-loop
 loop-again-2 c = (
   (c .before .before .before .before .before .before .before .before .before .before .before .before .before .before .before .before .before .before .before .before .before .before .before .before .before .before .before .before .before .before .loop .inv .0),
   (omega (arith, (c .before .before .before .before .before .before .before .before .before .before .before .before .before .before .before .before .before .before .before .before .before .before .before .before .before .before .before .before .before .loop-test .taken)), c .before .before .before .before .before .before .before .before .before .before .before .before .before .before .before .before .before .before .before .before .before .before .before .before .before .before .before .before .before .before .loop .inv .1 .1),
-  going-on _ _ _ _ _ _ _ _ (c .before .before .before .before .before .before .before .before .before .before .before .before .before .before .before .before .before .before .before .before .before .before .before .before .before .before .before .before .before .before .loop .inv .2) _ (c .before .before .before .before .before .before .before .before .before .before .before .before .before .before .before .before .before .before .before .before .before .before .before .before .before .before .before .before .event-at .ensures) _ _ (c .before .before .before .before .before .before .before .before .before .before .before .before .before .before .before .outcome2 .given .0 .0) _ _ _ _ _ (going-plan _ _ _ _ _ _ _ _ (c .before .before .before .before .before .before .before .before .before .before .before .before .before .before .before .before .before .before .before .before .before .before .before .before .before .before .before .before .before .before .loop .inv .2) _ _ _ _ _ _ (sym (c .before .before .before .before .before .before .before .before .before .before .before .before .before .before .before .before .before .before .before .before .before .before .before .before .before .before .in-rack .ensures) ∙ not-false _ (c .before .before .before .before .before .before .before .before .before .before .before .before .before .before .before .before .before .before .before .before .before .before .before .before .before .if1 .left)) (c .before .before .before .before .before .before .before .before .before .before .before .before .before .before .before .before .before .before .before .before .before .before .before .before .slot-of .ensures) (c .before .before .before .before .before .before .before .before .before .before .before .before .before .before .before .before .before .before .before .before .before .before .client-of .ensures) (c .before .before .before .before .before .before .before .before .before .before .before .before .before .before .before .before .before .before .before .before .before .place-in .ensures) (c .before .before .before .before .before .before .before .before .before .before .before .before .before .before .before .before .before .before .plan .ensures) (c .before .before .before .before .before .before .before .before .before .before .before .before .before .before .before .before .before .checked .ensures) ∙ c .before .before .before .before .before .before .before .before .before .before .before .before .before .before .before .outcome2 .given .1) (c .before .before .before .before .before .before .before .before .before .before .before .before .before .before .before .before .before .before .before .before .before .before .before .before .slot-of .ensures) (c .before .before .before .before .before .before .before .before .before .before .before .before .before .before .before .before .before .before .before .before .before .before .client-of .ensures) (c .before .before .before .before .before .before .before .before .before .before .before .before .before .before .before .before .before .before .before .before .before .before .before .before .before .before .before .before .before .before .loop .inv .0) (c .before .before .before .before .before .before .before .before .before .before .before .before .before .before .before .before .before .before .before .before .before .before .before .before .before .before .before .before .before .loop-test .taken)
-      (turned-asked (c .before .before .before .before .before .before .before .before .before .before .before .before .before .before .before .before .before .before .before .before .before .before .before .before .before .before .before .before .before .before .loop .r) _ (c .before .before .before .before .before .before .before .before .before .before .before .before .before .before .before .outcome2 .given .0 .0) _ _ _ _ _ _ (c .before .before .before .before .before .before .before .before .before .before .before .before .before .before .before .before .before .before .before .before .before .before .before .before .slot-of .ensures) (c .before .before .before .before .before .before .before .before .before .before .before .before .before .before .before .before .before .before .before .before .before .before .client-of .ensures) (c .before .before .before .before .before .before .before .before .before .before .before .before .before .before .before .before .before .before .before .before .before .place-in .ensures) (c .before .before .before .before .before .before .before .before .slot-after .ensures) (c .before .note .given .1) (shipping-end _ _ _ _ _ _ (c .before .before .before .before .loop2 .inv) (omega (arith, c .before .before .before .loop2-test .left))))
-      ((c .before .before .before .before .loop2 .inv) .send .tied) (c .before .before .before .before .before .before .before .before .before .before .before .before .owing-after .ensures) (c .before .before .before .before .before .before .before .before .before .before .before .room-after .ensures),
+  going-on _ _ _ _ _ _ _ (c .before .before .before .before .before .before .before .before .before .before .before .before .before .before .before .before .before .before .before .before .before .before .before .before .before .before .before .before .before .before .loop .inv .2) _ (c .before .before .before .before .before .before .before .before .before .before .before .before .before .before .before .before .before .before .before .before .before .before .before .before .before .before .before .before .event-at .ensures) (c .before .before .before .before .before .before .before .before .before .before .before .before .before .before .outcome2 .given .0 .0) _ _ _ _ (going-plan _ _ _ _ _ _ _ (c .before .before .before .before .before .before .before .before .before .before .before .before .before .before .before .before .before .before .before .before .before .before .before .before .before .before .before .before .before .before .loop .inv .2) _ _ _ _ _ _ (sym (c .before .before .before .before .before .before .before .before .before .before .before .before .before .before .before .before .before .before .before .before .before .before .before .before .before .before .in-rack .ensures) ∙ not-false _ (c .before .before .before .before .before .before .before .before .before .before .before .before .before .before .before .before .before .before .before .before .before .before .before .before .before .if1 .left)) (c .before .before .before .before .before .before .before .before .before .before .before .before .before .before .before .before .before .before .before .before .before .before .before .before .slot-of .ensures) (c .before .before .before .before .before .before .before .before .before .before .before .before .before .before .before .before .before .before .before .before .before .before .client-of .ensures) (c .before .before .before .before .before .before .before .before .before .before .before .before .before .before .before .before .before .before .before .before .before .place-in .ensures) (c .before .before .before .before .before .before .before .before .before .before .before .before .before .before .before .before .before .before .plan .ensures) (c .before .before .before .before .before .before .before .before .before .before .before .before .before .before .before .before .checked .ensures) ∙ c .before .before .before .before .before .before .before .before .before .before .before .before .before .before .outcome2 .given .1) (c .before .before .before .before .before .before .before .before .before .before .before .before .before .before .before .before .before .before .before .before .before .before .before .before .before .before .before .before .before .before .loop .inv .0) (c .before .before .before .before .before .before .before .before .before .before .before .before .before .before .before .before .before .before .before .before .before .before .before .before .before .before .before .before .before .loop-test .taken) (turned-asked (c .before .before .before .before .before .before .before .before .before .before .before .before .before .before .before .before .before .before .before .before .before .before .before .before .before .before .before .before .before .before .loop .r) _ (c .before .before .before .before .before .before .before .before .before .before .before .before .before .before .outcome2 .given .0 .0) _ _ _ _ _ _ (c .before .before .before .before .before .before .before .before .before .before .before .before .before .before .before .before .before .before .before .before .before .before .before .before .slot-of .ensures) (c .before .before .before .before .before .before .before .before .before .before .before .before .before .before .before .before .before .before .before .before .before .before .client-of .ensures) (c .before .before .before .before .before .before .before .before .before .before .before .before .before .before .before .before .before .before .before .before .before .place-in .ensures) (c .before .before .before .before .before .before .before .before .slot-after .ensures) (c .before .note .given .1) (shipping-end _ _ _ _ _ _ (c .before .before .before .before .loop2 .inv) (omega (arith, c .before .before .before .loop2-test .left)))) ((c .before .before .before .before .loop2 .inv) .send .tied) (c .before .before .before .before .before .before .before .before .before .before .before .room-after .ensures),
 )
 
 enum-known-note-2 : tie.Need-enum-known-note-2 Inv-loop2 μ-loop2 Inv-loop μ-loop
 enum-known-note-2 c = search needs
 
-mul-t80 : tie.Need-mul-t80 Inv-loop2 μ-loop2 Inv-loop μ-loop
-mul-t80 c = record { fits = omega (arith, entry-place _ _ _ _ _ _ (c .before .before .before .before .loop2 .inv) ((c .before .before .before .before .before .before .before .before .before .before .before .before .before .before .before .outcome2 .given .0 .0) .note) (ended-one _ _ (c .before .note2 .given .1)) (going-entry _ _ _ _ _ _ _ _ (c .before .before .before .before .before .before .before .before .before .before .before .before .before .before .before .before .before .before .before .before .before .before .before .before .before .before .before .before .before .before .loop .inv .2) _ (c .before .before .before .before .before .before .before .before .before .before .before .before .before .before .before .outcome2 .given .0 .0) (going-plan _ _ _ _ _ _ _ _ (c .before .before .before .before .before .before .before .before .before .before .before .before .before .before .before .before .before .before .before .before .before .before .before .before .before .before .before .before .before .before .loop .inv .2) _ _ _ _ _ _ (sym (c .before .before .before .before .before .before .before .before .before .before .before .before .before .before .before .before .before .before .before .before .before .before .before .before .before .before .in-rack .ensures) ∙ not-false _ (c .before .before .before .before .before .before .before .before .before .before .before .before .before .before .before .before .before .before .before .before .before .before .before .before .before .if1 .left)) (c .before .before .before .before .before .before .before .before .before .before .before .before .before .before .before .before .before .before .before .before .before .before .before .before .slot-of .ensures) (c .before .before .before .before .before .before .before .before .before .before .before .before .before .before .before .before .before .before .before .before .before .before .client-of .ensures) (c .before .before .before .before .before .before .before .before .before .before .before .before .before .before .before .before .before .before .before .before .before .place-in .ensures) (c .before .before .before .before .before .before .before .before .before .before .before .before .before .before .before .before .before .before .plan .ensures) (c .before .before .before .before .before .before .before .before .before .before .before .before .before .before .before .before .before .checked .ensures) ∙ c .before .before .before .before .before .before .before .before .before .before .before .before .before .before .before .outcome2 .given .1))) }
+mul-t78 : tie.Need-mul-t78 Inv-loop2 μ-loop2 Inv-loop μ-loop
+mul-t78 c = record { fits = omega (arith, entry-place _ _ _ _ _ _ (c .before .before .before .before .loop2 .inv) ((c .before .before .before .before .before .before .before .before .before .before .before .before .before .before .outcome2 .given .0 .0) .note) (ended-one _ _ (c .before .note2 .given .1)) (going-entry _ _ _ _ _ _ _ (c .before .before .before .before .before .before .before .before .before .before .before .before .before .before .before .before .before .before .before .before .before .before .before .before .before .before .before .before .before .before .loop .inv .2) _ (c .before .before .before .before .before .before .before .before .before .before .before .before .before .before .outcome2 .given .0 .0) (going-plan _ _ _ _ _ _ _ (c .before .before .before .before .before .before .before .before .before .before .before .before .before .before .before .before .before .before .before .before .before .before .before .before .before .before .before .before .before .before .loop .inv .2) _ _ _ _ _ _ (sym (c .before .before .before .before .before .before .before .before .before .before .before .before .before .before .before .before .before .before .before .before .before .before .before .before .before .before .in-rack .ensures) ∙ not-false _ (c .before .before .before .before .before .before .before .before .before .before .before .before .before .before .before .before .before .before .before .before .before .before .before .before .before .if1 .left)) (c .before .before .before .before .before .before .before .before .before .before .before .before .before .before .before .before .before .before .before .before .before .before .before .before .slot-of .ensures) (c .before .before .before .before .before .before .before .before .before .before .before .before .before .before .before .before .before .before .before .before .before .before .client-of .ensures) (c .before .before .before .before .before .before .before .before .before .before .before .before .before .before .before .before .before .before .before .before .before .place-in .ensures) (c .before .before .before .before .before .before .before .before .before .before .before .before .before .before .before .before .before .before .plan .ensures) (c .before .before .before .before .before .before .before .before .before .before .before .before .before .before .before .before .checked .ensures) ∙ c .before .before .before .before .before .before .before .before .before .before .before .before .before .before .outcome2 .given .1))) }
 
 element-set-from-r-4 : tie.Need-element-set-from-r-4 Inv-loop2 μ-loop2 Inv-loop μ-loop
-element-set-from-r-4 c = entry-place _ _ _ _ _ _ (c .before .before .before .before .loop2 .inv) ((c .before .before .before .before .before .before .before .before .before .before .before .before .before .before .before .outcome2 .given .0 .0) .note) (ended-one _ _ (c .before .note2 .given .1)) (going-entry _ _ _ _ _ _ _ _ (c .before .before .before .before .before .before .before .before .before .before .before .before .before .before .before .before .before .before .before .before .before .before .before .before .before .before .before .before .before .before .loop .inv .2) _ (c .before .before .before .before .before .before .before .before .before .before .before .before .before .before .before .outcome2 .given .0 .0) (going-plan _ _ _ _ _ _ _ _ (c .before .before .before .before .before .before .before .before .before .before .before .before .before .before .before .before .before .before .before .before .before .before .before .before .before .before .before .before .before .before .loop .inv .2) _ _ _ _ _ _ (sym (c .before .before .before .before .before .before .before .before .before .before .before .before .before .before .before .before .before .before .before .before .before .before .before .before .before .before .in-rack .ensures) ∙ not-false _ (c .before .before .before .before .before .before .before .before .before .before .before .before .before .before .before .before .before .before .before .before .before .before .before .before .before .if1 .left)) (c .before .before .before .before .before .before .before .before .before .before .before .before .before .before .before .before .before .before .before .before .before .before .before .before .slot-of .ensures) (c .before .before .before .before .before .before .before .before .before .before .before .before .before .before .before .before .before .before .before .before .before .before .client-of .ensures) (c .before .before .before .before .before .before .before .before .before .before .before .before .before .before .before .before .before .before .before .before .before .place-in .ensures) (c .before .before .before .before .before .before .before .before .before .before .before .before .before .before .before .before .before .before .plan .ensures) (c .before .before .before .before .before .before .before .before .before .before .before .before .before .before .before .before .before .checked .ensures) ∙ c .before .before .before .before .before .before .before .before .before .before .before .before .before .before .before .outcome2 .given .1))
+element-set-from-r-4 c = entry-place _ _ _ _ _ _ (c .before .before .before .before .loop2 .inv) ((c .before .before .before .before .before .before .before .before .before .before .before .before .before .before .outcome2 .given .0 .0) .note) (ended-one _ _ (c .before .note2 .given .1)) (going-entry _ _ _ _ _ _ _ (c .before .before .before .before .before .before .before .before .before .before .before .before .before .before .before .before .before .before .before .before .before .before .before .before .before .before .before .before .before .before .loop .inv .2) _ (c .before .before .before .before .before .before .before .before .before .before .before .before .before .before .outcome2 .given .0 .0) (going-plan _ _ _ _ _ _ _ (c .before .before .before .before .before .before .before .before .before .before .before .before .before .before .before .before .before .before .before .before .before .before .before .before .before .before .before .before .before .before .loop .inv .2) _ _ _ _ _ _ (sym (c .before .before .before .before .before .before .before .before .before .before .before .before .before .before .before .before .before .before .before .before .before .before .before .before .before .before .in-rack .ensures) ∙ not-false _ (c .before .before .before .before .before .before .before .before .before .before .before .before .before .before .before .before .before .before .before .before .before .before .before .before .before .if1 .left)) (c .before .before .before .before .before .before .before .before .before .before .before .before .before .before .before .before .before .before .before .before .before .before .before .before .slot-of .ensures) (c .before .before .before .before .before .before .before .before .before .before .before .before .before .before .before .before .before .before .before .before .before .before .client-of .ensures) (c .before .before .before .before .before .before .before .before .before .before .before .before .before .before .before .before .before .before .before .before .before .place-in .ensures) (c .before .before .before .before .before .before .before .before .before .before .before .before .before .before .before .before .before .before .plan .ensures) (c .before .before .before .before .before .before .before .before .before .before .before .before .before .before .before .before .checked .ensures) ∙ c .before .before .before .before .before .before .before .before .before .before .before .before .before .before .outcome2 .given .1))
 
 add-r-2 : tie.Need-add-r-2 Inv-loop2 μ-loop2 Inv-loop μ-loop
-add-r-2 c = record { fits = omega (arith, entry-place _ _ _ _ _ _ (c .before .before .before .before .loop2 .inv) ((c .before .before .before .before .before .before .before .before .before .before .before .before .before .before .before .outcome2 .given .0 .0) .note) (ended-one _ _ (c .before .note2 .given .1)) (going-entry _ _ _ _ _ _ _ _ (c .before .before .before .before .before .before .before .before .before .before .before .before .before .before .before .before .before .before .before .before .before .before .before .before .before .before .before .before .before .before .loop .inv .2) _ (c .before .before .before .before .before .before .before .before .before .before .before .before .before .before .before .outcome2 .given .0 .0) (going-plan _ _ _ _ _ _ _ _ (c .before .before .before .before .before .before .before .before .before .before .before .before .before .before .before .before .before .before .before .before .before .before .before .before .before .before .before .before .before .before .loop .inv .2) _ _ _ _ _ _ (sym (c .before .before .before .before .before .before .before .before .before .before .before .before .before .before .before .before .before .before .before .before .before .before .before .before .before .before .in-rack .ensures) ∙ not-false _ (c .before .before .before .before .before .before .before .before .before .before .before .before .before .before .before .before .before .before .before .before .before .before .before .before .before .if1 .left)) (c .before .before .before .before .before .before .before .before .before .before .before .before .before .before .before .before .before .before .before .before .before .before .before .before .slot-of .ensures) (c .before .before .before .before .before .before .before .before .before .before .before .before .before .before .before .before .before .before .before .before .before .before .client-of .ensures) (c .before .before .before .before .before .before .before .before .before .before .before .before .before .before .before .before .before .before .before .before .before .place-in .ensures) (c .before .before .before .before .before .before .before .before .before .before .before .before .before .before .before .before .before .before .plan .ensures) (c .before .before .before .before .before .before .before .before .before .before .before .before .before .before .before .before .before .checked .ensures) ∙ c .before .before .before .before .before .before .before .before .before .before .before .before .before .before .before .outcome2 .given .1))) }
+add-r-2 c = record { fits = omega (arith, entry-place _ _ _ _ _ _ (c .before .before .before .before .loop2 .inv) ((c .before .before .before .before .before .before .before .before .before .before .before .before .before .before .outcome2 .given .0 .0) .note) (ended-one _ _ (c .before .note2 .given .1)) (going-entry _ _ _ _ _ _ _ (c .before .before .before .before .before .before .before .before .before .before .before .before .before .before .before .before .before .before .before .before .before .before .before .before .before .before .before .before .before .before .loop .inv .2) _ (c .before .before .before .before .before .before .before .before .before .before .before .before .before .before .outcome2 .given .0 .0) (going-plan _ _ _ _ _ _ _ (c .before .before .before .before .before .before .before .before .before .before .before .before .before .before .before .before .before .before .before .before .before .before .before .before .before .before .before .before .before .before .loop .inv .2) _ _ _ _ _ _ (sym (c .before .before .before .before .before .before .before .before .before .before .before .before .before .before .before .before .before .before .before .before .before .before .before .before .before .before .in-rack .ensures) ∙ not-false _ (c .before .before .before .before .before .before .before .before .before .before .before .before .before .before .before .before .before .before .before .before .before .before .before .before .before .if1 .left)) (c .before .before .before .before .before .before .before .before .before .before .before .before .before .before .before .before .before .before .before .before .before .before .before .before .slot-of .ensures) (c .before .before .before .before .before .before .before .before .before .before .before .before .before .before .before .before .before .before .before .before .before .before .client-of .ensures) (c .before .before .before .before .before .before .before .before .before .before .before .before .before .before .before .before .before .before .before .before .before .place-in .ensures) (c .before .before .before .before .before .before .before .before .before .before .before .before .before .before .before .before .before .before .plan .ensures) (c .before .before .before .before .before .before .before .before .before .before .before .before .before .before .before .before .checked .ensures) ∙ c .before .before .before .before .before .before .before .before .before .before .before .before .before .before .outcome2 .given .1))) }
 
 loop-less-3 : tie.Need-loop-less-3 Inv-loop2 μ-loop2 Inv-loop μ-loop
 loop-less-3 c = omega (arith, (c .before .before .before .before .before .before .before .before .before .before .before .before .before .before .before .before .before .before .before .before .before .before .before .before .before .before .before .before .before .loop-test .taken))
@@ -223,16 +212,14 @@ loop-again-3 : tie.Need-loop-again-3 Inv-loop2 μ-loop2 Inv-loop μ-loop
 loop-again-3 c = (
   (c .before .before .before .before .before .before .before .before .before .before .before .before .before .before .before .before .before .before .before .before .before .before .before .before .before .before .before .before .before .before .loop .inv .0),
   (omega (arith, (c .before .before .before .before .before .before .before .before .before .before .before .before .before .before .before .before .before .before .before .before .before .before .before .before .before .before .before .before .before .loop-test .taken)), c .before .before .before .before .before .before .before .before .before .before .before .before .before .before .before .before .before .before .before .before .before .before .before .before .before .before .before .before .before .before .loop .inv .1 .1),
-  going-on _ _ _ _ _ _ _ _ (c .before .before .before .before .before .before .before .before .before .before .before .before .before .before .before .before .before .before .before .before .before .before .before .before .before .before .before .before .before .before .loop .inv .2) _ (c .before .before .before .before .before .before .before .before .before .before .before .before .before .before .before .before .before .before .before .before .before .before .before .before .before .before .before .before .event-at .ensures) _ _ (c .before .before .before .before .before .before .before .before .before .before .before .before .before .before .before .outcome2 .given .0 .0) _ _ _ _ _ (going-plan _ _ _ _ _ _ _ _ (c .before .before .before .before .before .before .before .before .before .before .before .before .before .before .before .before .before .before .before .before .before .before .before .before .before .before .before .before .before .before .loop .inv .2) _ _ _ _ _ _ (sym (c .before .before .before .before .before .before .before .before .before .before .before .before .before .before .before .before .before .before .before .before .before .before .before .before .before .before .in-rack .ensures) ∙ not-false _ (c .before .before .before .before .before .before .before .before .before .before .before .before .before .before .before .before .before .before .before .before .before .before .before .before .before .if1 .left)) (c .before .before .before .before .before .before .before .before .before .before .before .before .before .before .before .before .before .before .before .before .before .before .before .before .slot-of .ensures) (c .before .before .before .before .before .before .before .before .before .before .before .before .before .before .before .before .before .before .before .before .before .before .client-of .ensures) (c .before .before .before .before .before .before .before .before .before .before .before .before .before .before .before .before .before .before .before .before .before .place-in .ensures) (c .before .before .before .before .before .before .before .before .before .before .before .before .before .before .before .before .before .before .plan .ensures) (c .before .before .before .before .before .before .before .before .before .before .before .before .before .before .before .before .before .checked .ensures) ∙ c .before .before .before .before .before .before .before .before .before .before .before .before .before .before .before .outcome2 .given .1) (c .before .before .before .before .before .before .before .before .before .before .before .before .before .before .before .before .before .before .before .before .before .before .before .before .slot-of .ensures) (c .before .before .before .before .before .before .before .before .before .before .before .before .before .before .before .before .before .before .before .before .before .before .client-of .ensures) (c .before .before .before .before .before .before .before .before .before .before .before .before .before .before .before .before .before .before .before .before .before .before .before .before .before .before .before .before .before .before .loop .inv .0) (c .before .before .before .before .before .before .before .before .before .before .before .before .before .before .before .before .before .before .before .before .before .before .before .before .before .before .before .before .before .loop-test .taken)
-      (turned-ended (c .before .before .before .before .before .before .before .before .before .before .before .before .before .before .before .before .before .before .before .before .before .before .before .before .before .before .before .before .before .before .loop .r) _ (c .before .before .before .before .before .before .before .before .before .before .before .before .before .before .before .outcome2 .given .0 .0) _ _ _ _ _ _ (c .before .before .before .before .before .before .before .before .before .before .before .before .before .before .before .before .before .before .before .before .before .before .before .before .slot-of .ensures) (c .before .before .before .before .before .before .before .before .before .before .before .before .before .before .before .before .before .before .before .before .before .before .client-of .ensures) (c .before .before .before .before .before .before .before .before .before .before .before .before .before .before .before .before .before .before .before .before .before .place-in .ensures) (c .before .before .before .before .before .before .before .before .slot-after .ensures) (c .before .note2 .given .1) (shipping-end _ _ _ _ _ _ (c .before .before .before .before .loop2 .inv) (omega (arith, c .before .before .before .loop2-test .left))))
-      ((c .before .before .before .before .loop2 .inv) .send .tied) (c .before .before .before .before .before .before .before .before .before .before .before .before .owing-after .ensures) (c .before .before .before .before .before .before .before .before .before .before .before .room-after .ensures),
+  going-on _ _ _ _ _ _ _ (c .before .before .before .before .before .before .before .before .before .before .before .before .before .before .before .before .before .before .before .before .before .before .before .before .before .before .before .before .before .before .loop .inv .2) _ (c .before .before .before .before .before .before .before .before .before .before .before .before .before .before .before .before .before .before .before .before .before .before .before .before .before .before .before .before .event-at .ensures) (c .before .before .before .before .before .before .before .before .before .before .before .before .before .before .outcome2 .given .0 .0) _ _ _ _ (going-plan _ _ _ _ _ _ _ (c .before .before .before .before .before .before .before .before .before .before .before .before .before .before .before .before .before .before .before .before .before .before .before .before .before .before .before .before .before .before .loop .inv .2) _ _ _ _ _ _ (sym (c .before .before .before .before .before .before .before .before .before .before .before .before .before .before .before .before .before .before .before .before .before .before .before .before .before .before .in-rack .ensures) ∙ not-false _ (c .before .before .before .before .before .before .before .before .before .before .before .before .before .before .before .before .before .before .before .before .before .before .before .before .before .if1 .left)) (c .before .before .before .before .before .before .before .before .before .before .before .before .before .before .before .before .before .before .before .before .before .before .before .before .slot-of .ensures) (c .before .before .before .before .before .before .before .before .before .before .before .before .before .before .before .before .before .before .before .before .before .before .client-of .ensures) (c .before .before .before .before .before .before .before .before .before .before .before .before .before .before .before .before .before .before .before .before .before .place-in .ensures) (c .before .before .before .before .before .before .before .before .before .before .before .before .before .before .before .before .before .before .plan .ensures) (c .before .before .before .before .before .before .before .before .before .before .before .before .before .before .before .before .checked .ensures) ∙ c .before .before .before .before .before .before .before .before .before .before .before .before .before .before .outcome2 .given .1) (c .before .before .before .before .before .before .before .before .before .before .before .before .before .before .before .before .before .before .before .before .before .before .before .before .before .before .before .before .before .before .loop .inv .0) (c .before .before .before .before .before .before .before .before .before .before .before .before .before .before .before .before .before .before .before .before .before .before .before .before .before .before .before .before .before .loop-test .taken) (turned-ended (c .before .before .before .before .before .before .before .before .before .before .before .before .before .before .before .before .before .before .before .before .before .before .before .before .before .before .before .before .before .before .loop .r) _ (c .before .before .before .before .before .before .before .before .before .before .before .before .before .before .outcome2 .given .0 .0) _ _ _ _ _ _ (c .before .before .before .before .before .before .before .before .before .before .before .before .before .before .before .before .before .before .before .before .before .before .before .before .slot-of .ensures) (c .before .before .before .before .before .before .before .before .before .before .before .before .before .before .before .before .before .before .before .before .before .before .client-of .ensures) (c .before .before .before .before .before .before .before .before .before .before .before .before .before .before .before .before .before .before .before .before .before .place-in .ensures) (c .before .before .before .before .before .before .before .before .slot-after .ensures) (c .before .note2 .given .1) (shipping-end _ _ _ _ _ _ (c .before .before .before .before .loop2 .inv) (omega (arith, c .before .before .before .loop2-test .left)))) ((c .before .before .before .before .loop2 .inv) .send .tied) (c .before .before .before .before .before .before .before .before .before .before .before .room-after .ensures),
 )
 
 ran-requires-3 : tie.Need-ran-requires-3 Inv-loop2 μ-loop2 Inv-loop μ-loop
 ran-requires-3 c κs = search needs
 
 returns-3 : tie.Need-returns-3 Inv-loop2 μ-loop2 Inv-loop μ-loop
-returns-3 c = c .ran3 .ensures ∙ going-out _ _ _ _ _ _ _ _ (c .before .before .loop .inv .2) _ (c .before .before .loop .inv .0) (c .before .loop-test .left)
+returns-3 c = c .ran3 .ensures ∙ going-out _ _ _ _ _ _ _ (c .before .before .loop .inv .2) _ (c .before .before .loop .inv .0) (c .before .loop-test .left)
 
 pub go-on-spec : {M : Type 1} → statement M
 go-on-spec =
@@ -242,7 +229,7 @@ go-on-spec =
     μ-loop2
     Inv-loop
     μ-loop
-    lengths-requires
+    long-requires
     most-requires
     loop-holds
     event-at-requires
@@ -259,13 +246,11 @@ go-on-spec =
     mul-pair
     element-copy-out-pair
     plan-requires
-    add-checked
     checked-requires
     enum-known-outcome
     ran-requires-2
     returns-2
     enum-known-outcome-2
-    owing-after-requires
     room-after-requires
     mul-party2
     element-set-from-party2
@@ -274,7 +259,7 @@ go-on-spec =
     mul-old
     element-copy-out-old
     slot-after-requires
-    mul-t56
+    mul-t54
     element-set-from-r
     mark-requires
     loop2-holds
@@ -282,7 +267,7 @@ go-on-spec =
     message-to-requires
     others-requires
     take-requires
-    mul-t72
+    mul-t70
     element-set-from-r-2
     loop2-less
     loop2-again
@@ -291,13 +276,13 @@ go-on-spec =
     loop-less
     loop-again
     enum-known-note
-    mul-t76
+    mul-t74
     element-set-from-r-3
     add-r
     loop-less-2
     loop-again-2
     enum-known-note-2
-    mul-t80
+    mul-t78
     element-set-from-r-4
     add-r-2
     loop-less-3

@@ -41,14 +41,11 @@ loop-again c = (search needs, map-next _ _ _ _ (c .before .is-empty .ensures) (c
 count-requires : tie.Need-count-requires Inv-loop μ-loop
 count-requires c κs = search needs
 
-owed-of-requires : tie.Need-owed-of-requires Inv-loop μ-loop
-owed-of-requires c κs = search needs
-
 returns : tie.Need-returns Inv-loop μ-loop
 unfolding roomOf
 returns c =
-    let t = map-all _ _ _ (c .before .before .before .before .loop .inv .0) (c .before .before .before .loop-test .left) (c .before .before .before .before .loop .inv .1) in
-    (t, (c .before .count .ensures .1 _ t, c .owed-of .ensures))
+    let t = map-all _ _ _ (c .before .before .before .loop .inv .0) (c .before .before .loop-test .left) (c .before .before .before .loop .inv .1) in
+    (t, c .count .ensures .1 _ t)
 
 pub start-of-spec : {M : Type 1} → statement M
 start-of-spec =
@@ -65,5 +62,4 @@ start-of-spec =
     loop-less
     loop-again
     count-requires
-    owed-of-requires
     returns)

@@ -1,7 +1,7 @@
 -- `rack::events::checked` meets its contract.
 use borrow.Author.Needs.{needs}
 use Rattle.rack.specs.Run.{noted, checked}
-use Rattle.rack.proofs.Laws.{taken-full, taken-free}
+use Rattle.rack.proofs.Laws.{crowded-by}
 use Rattle.rack.proofs.events.checked.Statement.{statement}
 use Rattle.rack.proofs.events.checked.Tie as tie
 
@@ -26,9 +26,15 @@ sent-requires-2 c κs = search needs
 enum-told-3 : tie.Need-enum-told-3
 enum-told-3 c = search needs
 
+owed-by-all-requires : tie.Need-owed-by-all-requires
+owed-by-all-requires c κs = search needs
+
+crowded-requires : tie.Need-crowded-requires
+crowded-requires c κs = search needs
+
 returns : tie.Need-returns
 unfolding checked noted
-returns c = rw (c .before .before .before .before .outcome2 .given .1, c .before .enum-told3 .given .1, taken-full _ (c .if1 .taken))
+returns c = rw (c .before .before .before .before .before .before .outcome2 .given .1, c .before .before .before .enum-told3 .given .1, crowded-by _ _ _ _ _ (c .before .crowded .ensures) (c .before .before .owed-by-all .ensures) (c .if1 .taken))
 
 sent-requires-3 : tie.Need-sent-requires-3
 sent-requires-3 c κs = search needs
@@ -47,7 +53,13 @@ returns-4 c = rw (c .sent2 .ensures, c .before .before .before .before .outcome2
 
 returns-5 : tie.Need-returns-5
 unfolding checked noted
-returns-5 c = rw (c .sent3 .ensures, c .before .before .before .before .before .outcome2 .given .1, c .before .before .enum-told3 .given .1, taken-free _ (c .before .if1 .left))
+returns-5 c =
+    rw (
+      c .sent3 .ensures,
+      c .before .before .before .before .before .before .before .outcome2 .given .1,
+      c .before .before .before .before .enum-told3 .given .1,
+      crowded-by _ _ _ _ _ (c .before .before .crowded .ensures) (c .before .before .before .owed-by-all .ensures) (c .before .if1 .left),
+    )
 
 pub checked-spec : {M : Type 1} → statement M
 checked-spec =
@@ -60,6 +72,8 @@ checked-spec =
     enum-told-2
     sent-requires-2
     enum-told-3
+    owed-by-all-requires
+    crowded-requires
     returns
     sent-requires-3
     returns-2
