@@ -10,8 +10,8 @@ use Rattle.record.specs.declared.Entry.{Entry}
 use Rattle.record.specs.declared.Found.the-variants.{At, Fault}
 use Rattle.record.specs.declared.Answer.the-variants.{All, Refused}
 use Rattle.record.specs.Entry.{entryBytes}
-use Rattle.rows.specs.Row.{rowAt}
 use Rattle.record.specs.Record.{fresh, Held, entries, fault, bytesOf}
+use Rattle.rows.specs.Row.{rowAt}
 use Rattle.rows.specs.Rows.{rowsHeld, measureOf, refused, writeInto, writeOutcome, Outcome}
 use Rattle.rows.specs.RowLaws.{row-next, more-rows, no-more-rows}
 use Rattle.rows.specs.Storing.{Writable, Going, Next, step, some-left, none-left, same-going, finish, stored-fits, stored-short}

@@ -10,8 +10,8 @@ use Rattle.record.specs.declared.Entry.{Entry}
 use Rattle.record.specs.declared.Found.the-variants.{At, Fault}
 use Rattle.record.specs.declared.Answer.the-variants.{All, Refused}
 use Rattle.record.specs.Entry.{entryAt}
-use Rattle.rows.specs.Row.{rowOf}
 use Rattle.record.specs.Record.{fresh, recordOf, Held, entries, fault, surveyOf}
+use Rattle.rows.specs.Row.{rowOf}
 use Rattle.rows.specs.Rows.{rowsOf, refused, readInto, readOutcome, Outcome}
 use Rattle.rows.specs.RowLaws.{row-length, rows-length}
 use Rattle.rows.specs.Storing.{Storable, Going, Next, step, same-going, finish, stored-fits, stored-short}

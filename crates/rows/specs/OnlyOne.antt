@@ -9,11 +9,11 @@ use Rattle.record.specs.declared.Answer.{Answer}
 use Rattle.record.specs.declared.Answer.the-variants.{All, Refused}
 use Rattle.record.specs.Entry.{entryBytes}
 use Rattle.record.specs.Record.{Held, allOf}
-use Rattle.rows.specs.Rows.{Outcome, Leaves, stored, readInto, writeInto, readOutcome, writeOutcome}
 use Rattle.record.specs.Answers.{countIn}
 use Rattle.record.specs.Sheet.{sheetBytes, sheet-reads, second-faulty}
-use Rattle.rows.specs.Sheet.{sheet-rows, row-client-8, one-row}
 use Rattle.record.specs.OnlyOne.{SameAnswer, same-answer}
+use Rattle.rows.specs.Rows.{Outcome, Leaves, stored, readInto, writeInto, readOutcome, writeOutcome}
+use Rattle.rows.specs.Sheet.{sheet-rows, row-client-8, one-row}
 
 -- two outcomes whose answers are one, and which leave the same in the lent memory
 pub record SameOutcome (r r′ : Answer) (d d′ : List ℕ) : Type 0 where

@@ -7,14 +7,13 @@ use mathlib.Core.Logic.{_⊎_, inl, inr}
 use native.Mathlib.Omega.{arith}
 use lib.ListN.{length, getD}
 use lib.Dec.{ltb, leb}
-use Rattle.number.specs.declared.Number.the-variants as number
 use Rattle.record.specs.declared.Entry.{Entry}
 use Rattle.record.specs.declared.Found.the-variants.{At, Fault}
 use Rattle.record.specs.declared.Answer.the-variants.{All, Refused}
-use Rattle.rows.specs.Row.{rowFound, rowAt}
 use Rattle.record.specs.Record.{entryLimit, fresh, Held, entries, fault, recordOf, bytesOf}
-use Rattle.rows.specs.Rows.{rowsHeld, rowsOf, Outcome, stored, readInto, writeInto, readOutcome, writeOutcome}
 use Rattle.record.specs.Refusals.{no-at, Named, named, record-faults}
+use Rattle.rows.specs.Row.{rowFound, rowAt}
+use Rattle.rows.specs.Rows.{rowsHeld, rowsOf, Outcome, stored, readInto, writeInto, readOutcome, writeOutcome}
 use Rattle.rows.specs.Trip.{Stores, short, fits, stores}
 
 -- a row with 24 or 25

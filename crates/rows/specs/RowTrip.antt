@@ -13,10 +13,10 @@ use Rattle.number.specs.ValueLaws.{signed-alternating, alternating-below, signe
 use Rattle.record.specs.declared.Entry.{Entry}
 use Rattle.record.specs.declared.Entry.the-variants.{ReadAsked, WriteAsked, Told, Done}
 use Rattle.record.specs.declared.Found.the-variants.{At}
-use Rattle.rows.specs.Row.{rowOf, rowFound, rowAt}
 use Rattle.record.specs.Legal.{InRange}
 use Rattle.record.specs.Below.{Words}
 use Rattle.record.specs.EntryTrip.{never, below-none}
+use Rattle.rows.specs.Row.{rowOf, rowFound, rowAt}
 use Rattle.rows.specs.RowLaws.{row-24, row-25-client, row-25-cell, row-done, row-told, row-read, row-write}
 
 -- a row's four numbers at place at

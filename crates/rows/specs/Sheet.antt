@@ -4,8 +4,8 @@ use mathlib.Core.Path.{_≡_, refl}
 use Rattle.number.specs.Value.{alternatingOf}
 use Rattle.record.specs.declared.Entry.the-variants.{ReadAsked}
 use Rattle.record.specs.Sheet.{sheetEntries}
-use Rattle.rows.specs.Row.{rowOf, entryOf, rowFound, rowAt}
 use Rattle.record.specs.Record.{faultAfter, standingAfter, entries, fault, before, enter, heldFrom, allOf}
+use Rattle.rows.specs.Row.{rowOf, entryOf, rowFound, rowAt}
 use Rattle.rows.specs.Rows.{rowsHeld, rowsOf}
 
 -- the sheet's four entries

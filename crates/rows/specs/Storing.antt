@@ -13,8 +13,8 @@ use Rattle.record.specs.declared.Found.the-variants.{At}
 use Rattle.record.specs.declared.Standing.{Standing}
 use Rattle.record.specs.declared.Answer.the-variants.{All}
 use Rattle.record.specs.Record.{standingAfter, Held, entries, heldFrom, allOf, bytesOf}
-use Rattle.rows.specs.Rows.{rowsOf, refused, stored}
 use Rattle.record.specs.Steps.{first, ends, empty}
+use Rattle.rows.specs.Rows.{rowsOf, refused, stored}
 use Rattle.rows.specs.Wrote.{sets-append, sets-front}
 
 -- n entries are held, and their rows fit

@@ -11,19 +11,19 @@ use borrow.Author.Tests.{le-leb, lt-leb, ltb-true, ltb-false}
 use Rattle.record.specs.declared.Entry.{Entry}
 use Rattle.record.specs.declared.Found.the-variants.{At}
 use Rattle.record.specs.declared.Answer.the-variants.{All, Refused}
-use Rattle.rows.specs.Row.{rowOf, rowAt}
 use Rattle.record.specs.Record.{entryLimit, fresh, Held, entries, fault, recordOf, bytesOf}
-use Rattle.rows.specs.Rows.{rowsHeld, rowsOf, Outcome, stored, readInto, writeInto, readOutcome, writeOutcome}
 use Rattle.record.specs.Legal.{Legal}
 use Rattle.record.specs.Below.{Bytes, Words}
-use Rattle.rows.specs.Storing.{stored-fits, stored-short}
 use Rattle.record.specs.Trip.{held-legal, Source, holds, from-length, from-none, all-below, reading-legal, read-of-write, write-of-read}
+use Rattle.rows.specs.Row.{rowOf, rowAt}
+use Rattle.rows.specs.Rows.{rowsHeld, rowsOf, Outcome, stored, readInto, writeInto, readOutcome, writeOutcome}
+use Rattle.rows.specs.Storing.{stored-fits, stored-short}
 use Rattle.rows.specs.RowLaws.{row-length, rows-length}
 use Rattle.rows.specs.RowTrip.{reads-row, row-range, row-words}
 
--- ---- rows
+-- ---- what rows hold
 
--- and so do rows
+-- rows give records without a fault only
 pub rows-legal : (ws : List ℕ) (es : List Entry) → Words ws → rowsHeld ws ≡ entries es → Legal es
 unfolding rowsHeld
 rows-legal ws es h p = held-legal (λ at. leb (at + 4) (length ws)) (rowAt ws) (λ at e next q. row-range ws at e next h q) es p
@@ -37,12 +37,12 @@ rows-source s = record {
   over = λ at p. lt-leb (at + 4) (length s) (omega (arith, from-none s at p));
 }
 
--- and so are its rows
+-- the rows of a record without a fault are read as that record
 pub rows-of-rows : (es : List Entry) → Legal es → rowsHeld (rowsOf es) ≡ entries es
 unfolding rowsHeld
 rows-of-rows es l = holds _ _ rowOf (rowsOf es) (rows-source (rowsOf es)) es entryLimit 0 0 fresh (l .follows) (l .few) refl
 
--- and each number of its rows a word
+-- each number of its rows is a word
 pub rows-words : (es : List Entry) → Legal es → Words (rowsOf es)
 rows-words es l = all-below (2 ^ 32) rowOf (omega arith) row-words es fresh (l .follows)
 

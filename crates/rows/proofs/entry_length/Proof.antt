@@ -1,8 +1,8 @@
 -- `rows::entry_length` meets its contract. Assumes nothing.
 use native.Mathlib.Omega.{arith}
+use Rattle.number.specs.ValueLaws.{alternating-of-bits}
 use Rattle.record.specs.Entry.{entryBytes}
 use Rattle.rows.specs.Wrote.{longer}
-use Rattle.number.specs.ValueLaws.{alternating-of-bits}
 use borrow.Author.Needs.{needs}
 use Rattle.rows.proofs.entry_length.Statement.{statement}
 use Rattle.rows.proofs.entry_length.Tie as tie

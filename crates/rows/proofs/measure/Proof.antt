@@ -1,5 +1,5 @@
 -- `rows::measure` meets its contract. The invariant: what is held from here on, with the bytes counted, is what is held in all.
-use Rattle.rows.specs.RowLaws.{row-next, more-rows, no-more-rows}
+use Rattle.record.specs.Entry.{entryBytes}
 -- Assumes nothing.
 use Prim.Native.Nat.{ℕ, _+_, _*_, _-_, _/_, _≤_, _<_}
 use mathlib.Core.Path.{_≡_, refl, sym, _∙_}
@@ -7,15 +7,15 @@ use native.Mathlib.Omega.{arith}
 use lib.ListN.{length}
 use lib.Dec.{leb}
 use borrow.Author.Needs.{needs}
-use Rattle.record.specs.Entry.{entryBytes}
-use Rattle.rows.specs.Row.{rowAt}
 use Rattle.record.specs.Record.{faultAfter, standingAfter}
-use Rattle.rows.specs.Rows.{rowsHeld}
 use Rattle.record.specs.declared.Entry.{Entry}
 use Rattle.record.specs.declared.Standing.{Standing}
 use Rattle.record.specs.declared.Found.the-variants.{At}
-use mathlib.Core.List.{List}
 use Rattle.record.specs.Steps.{Counting, counts-end, counts-full, counts-unread, counts-misplaced, counts-on}
+use Rattle.rows.specs.RowLaws.{row-next, more-rows, no-more-rows}
+use Rattle.rows.specs.Row.{rowAt}
+use mathlib.Core.List.{List}
+use Rattle.rows.specs.Rows.{rowsHeld}
 use Rattle.rows.specs.RowLaws.{measure-tally}
 use Rattle.rows.proofs.measure.Statement.{statement}
 use Rattle.rows.proofs.measure.Tie as tie

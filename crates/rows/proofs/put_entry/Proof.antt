@@ -1,7 +1,7 @@
 -- `rows::put_entry` meets its contract. Assumes nothing.
 use Rattle.rows.proofs.Laws.{write-room, told-room}
-use Rattle.record.specs.Entry.{entryBytes}
 use Rattle.number.specs.ValueLaws.{alternating-of-bits}
+use Rattle.record.specs.Entry.{entryBytes}
 use borrow.Author.Needs.{needs}
 use Rattle.rows.proofs.put_entry.Statement.{statement}
 use Rattle.rows.proofs.put_entry.Tie as tie

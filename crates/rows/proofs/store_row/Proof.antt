@@ -1,6 +1,6 @@
 -- `rows::store_row` meets its contract. Assumes nothing.
-use Rattle.rows.specs.Row.{rowOf}
 use Rattle.number.specs.ValueLaws.{alternating-of-bits}
+use Rattle.rows.specs.Row.{rowOf}
 use borrow.Author.Needs.{needs}
 use Rattle.rows.proofs.store_row.Statement.{statement}
 use Rattle.rows.proofs.store_row.Tie as tie
