@@ -1,16 +1,10 @@
 -- What the call's functions know of rows.
-use Prim.Native.Nat.{ℕ, suc, _+_, _^_, _<_}
-use mathlib.Core.Path.{_≡_, sym, ap, _∙_}
+use Prim.Native.Nat.{ℕ, suc, _+_}
+use mathlib.Core.Path.{_≡_}
 use mathlib.Core.List.{List, [], _∷_}
 use native.Mathlib.Omega.{arith}
 use lib.ListN.{length, getD, set}
 use lib.Seq.{sets}
-use lib.IntN.{ℤ}
-use lib.Signed.{mag}
-use mir.Syntax.{w32}
-use mir.Val.{toZ, ofZ}
-use mir.Facts.{toZ-ofZ}
-use Rattle.number.specs.Value.{alternatingOf}
 
 -- four numbers, one after another
 pub put-four : (d : List ℕ) (at : ℕ) (row : List ℕ) → length row ≡ 4
@@ -25,7 +19,3 @@ put-four d at (x ∷ y ∷ z ∷ v ∷ []) h =
     let three : at + 3 ≡ suc (suc (suc at)) = omega arith in
     rw (one, two, three)
 put-four d at (x ∷ y ∷ z ∷ v ∷ w ∷ row) h = absurd (omega arith)
-
--- what `alternating` was handed is the value itself
-pub alternated : (z : ℤ) (r : ℕ) → mag z < 2 ^ 31 → r ≡ alternatingOf (toZ w32 (ofZ w32 z)) → alternatingOf z ≡ r
-alternated z r h e = sym (e ∙ ap alternatingOf (toZ-ofZ {w = w32} {z = z} (record { sfits = h })))

@@ -8,11 +8,14 @@ use lib.ListN.{length, drop}
 use Rattle.record.specs.declared.Entry.{Entry}
 use Rattle.record.specs.declared.Answer.{Answer}
 use Rattle.record.specs.declared.Answer.the-variants.{All}
-use Rattle.record.specs.Record.{entries, fault, Outcome, bytesOf, rowsOf, writeOutcome, Leaves}
+use Rattle.record.specs.Record.{entries, fault, bytesOf}
+use Rattle.rows.specs.Rows.{Outcome, rowsOf, writeOutcome, Leaves}
 use Rattle.record.specs.Legal.{Legal}
 use Rattle.record.specs.Below.{Words}
-use Rattle.record.specs.Storing.{stored-fits}
-use Rattle.record.specs.Trip.{read-of-write, reads-legal, writes-legal, rows-length, record-bytes, record-few}
+use Rattle.rows.specs.Storing.{stored-fits}
+use Rattle.record.specs.Trip.{read-of-write, record-bytes, record-few}
+use Rattle.rows.specs.Trip.{reads-legal, writes-legal}
+use Rattle.rows.specs.RowLaws.{rows-length}
 use Rattle.verdict.specs.Verdict.{repeats, distinctFrom, distinct, takenFor}
 use Rattle.rack.specs.declared.Rack.{Rack}
 use Rattle.rack.specs.Places.{recordOf}

@@ -6,11 +6,12 @@ use native.Mathlib.Omega.{arith}
 use lib.ListN.{getD, set, take, drop, length}
 use lib.Seq.{length-take-le, take-all, take-suc, take-suc-set, sets, length-sets, take-at}
 use Rattle.record.specs.declared.Entry.{Entry}
-use Rattle.record.specs.Entry.{rowOf}
+use Rattle.rows.specs.Row.{rowOf}
 use Rattle.record.specs.declared.Answer.{Answer}
-use Rattle.record.specs.Record.{allOf, rowsOf, writeOutcome, Leaves}
-use Rattle.record.specs.Trip.{rows-length}
-use Rattle.record.specs.Wrote.{sets-append, sets-front}
+use Rattle.record.specs.Record.{allOf}
+use Rattle.rows.specs.Rows.{rowsOf, writeOutcome, Leaves}
+use Rattle.rows.specs.RowLaws.{rows-length}
+use Rattle.rows.specs.Wrote.{sets-append, sets-front}
 use Rattle.rack.specs.declared.Line.{Line}
 use Rattle.rack.specs.declared.Rack.{Rack}
 use Rattle.plan.specs.declared.Event.{Event}

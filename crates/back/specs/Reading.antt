@@ -5,7 +5,8 @@ use mathlib.Core.List.{List, _++_}
 use lib.ListN.{length, drop}
 use Rattle.record.specs.declared.Entry.{Entry}
 use Rattle.record.specs.declared.Answer.the-variants.{All}
-use Rattle.record.specs.Record.{entries, bytesOf, rowsOf, recordOf, readOutcome, writeOutcome}
+use Rattle.record.specs.Record.{entries, bytesOf, recordOf}
+use Rattle.rows.specs.Rows.{rowsOf, readOutcome, writeOutcome}
 use Rattle.record.specs.Below.{Bytes}
 use Rattle.verdict.specs.declared.Verdict.the-variants.{Refused as saysRefused}
 use Rattle.verdict.specs.Verdict.{takenFor, Judges}

@@ -3,8 +3,8 @@ ghost use mathlib.Core.Path.{_≡_};
 ghost use Prim.Native.Nat.{_+_, _*_, _≤_};
 ghost use lib.ListN.{length};
 ghost use lib.Seq.{sets};
-ghost use Rattle.record.specs.Entry.{rowOf};
-ghost use Rattle.record.specs.Record.{rowsOf, writeOutcome, Leaves};
+ghost use Rattle.rows.specs.Row.{rowOf};
+ghost use Rattle.rows.specs.Rows.{rowsOf, writeOutcome, Leaves};
 ghost use Rattle.rack.specs.Places.{recordOf};
 ghost use Rattle.back.specs.Lines.{entriesOf};
 use rack::Line;
@@ -73,5 +73,5 @@ pub fn write_record_of(rack: Rack, bytes: &mut [u8]) -> Answer
     let n = entries_in(lines, rack.count);
     let mut rows = [0u32; 8192];
     store_lines(lines, n, &mut rows);
-    record::write_record(&rows[..4 * n], bytes)
+    rows::write_record(&rows[..4 * n], bytes)
 }

@@ -12,10 +12,12 @@ use Rattle.number.specs.Laws.{length-few, put-fits, put-refused}
 use Rattle.number.specs.Trip.{written-read}
 use Rattle.number.specs.declared.Number.the-variants.{Is}
 use Rattle.number.specs.declared.Put.the-variants.{Next}
-use Rattle.record.specs.Record.{Held, entries, fault, recordOf, readOutcome, writeOutcome}
+use Rattle.record.specs.Record.{Held, entries, fault, recordOf}
+use Rattle.rows.specs.Rows.{readOutcome, writeOutcome}
 use Rattle.record.specs.Below.{Bytes}
 use Rattle.record.specs.Trip.{reading-legal}
-use Rattle.record.specs.Refusals.{Named, record-faults, Refusal, read-refusals, write-refusals}
+use Rattle.record.specs.Refusals.{Named, record-faults}
+use Rattle.rows.specs.Refusals.{Refusal, read-refusals, write-refusals}
 use Rattle.record.specs.declared.Entry.{Entry}
 use Rattle.verdict.specs.Verdict.{repeats, distinctFrom, distinct, takenFor, Judges}
 use Rattle.verdict.specs.declared.Verdict.{Verdict}

@@ -8,7 +8,7 @@ use lib.ListN.{length, getD}
 use Rattle.number.specs.Number.{numberAt, putAnswer, putBytes}
 use Rattle.number.specs.Sheet.{read-80-00, read-80}
 use Rattle.record.specs.declared.Answer.the-variants.{All, Refused as Unread}
-use Rattle.record.specs.Record.{readOutcome, writeOutcome}
+use Rattle.rows.specs.Rows.{readOutcome, writeOutcome}
 use Rattle.record.specs.Sheet.{sheetBytes}
 use Rattle.verdict.specs.OnlyOne.{one-verdict}
 use Rattle.verdict.specs.Bench.{stale, twelve-verdict, stale-verdict}

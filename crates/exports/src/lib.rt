@@ -3,7 +3,7 @@ ghost use mathlib.Core.Path.{_≡_};
 ghost use Prim.Native.Nat.{_^_, _<_};
 ghost use Rattle.number.specs.Number.{numberAt, putAnswer, putBytes};
 ghost use Rattle.number.specs.Value.{alternatingOf, signedOf};
-ghost use Rattle.record.specs.Record.{readOutcome, writeOutcome};
+ghost use Rattle.rows.specs.Rows.{readOutcome, writeOutcome};
 ghost use Rattle.exports.specs.Packed.{packedNumber, packedPut, packedAnswer, Small, packedVerdict, Brief, Judged, packedRun};
 ghost use Rattle.words.specs.Calls.{madeOutcome, runOutcome};
 use number::Number;
@@ -65,7 +65,7 @@ fn packed(a: Answer) -> u64
 pub extern "C" fn adze_read_record(bytes: &[u8], rows: &mut [u32]) -> u64
     ensures { λ r. ⌜ (r ≡ packedAnswer (readOutcome (now (bytes .entry)) (now (rows .entry)) .answer)) × (now (rows .exit) ≡ readOutcome (now (bytes .entry)) (now (rows .entry)) .lent) ⌝ }
 {
-    let a = record::read_record(bytes, rows);
+    let a = rows::read_record(bytes, rows);
     packed(a)
 }
 
@@ -74,7 +74,7 @@ pub extern "C" fn adze_read_record(bytes: &[u8], rows: &mut [u32]) -> u64
 pub extern "C" fn adze_write_record(rows: &[u32], bytes: &mut [u8]) -> u64
     ensures { λ r. ⌜ (r ≡ packedAnswer (writeOutcome (now (rows .entry)) (now (bytes .entry)) .answer)) × (now (bytes .exit) ≡ writeOutcome (now (rows .entry)) (now (bytes .entry)) .lent) ⌝ }
 {
-    let a = record::write_record(rows, bytes);
+    let a = rows::write_record(rows, bytes);
     packed(a)
 }
 

@@ -1,7 +1,9 @@
 -- Worked examples that the promises of these calls cite. The bench sheet's starred lines stand together in crate sheet.
 use mathlib.Core.List.{[], _∷_}
 use mathlib.Core.Path.{_≡_, refl}
+use lib.IntN.{pos, negsuc}
 use Rattle.number.specs.Number.{groupsOf, numberBytes, taken, lastOf, valueOf, numberOf, numberAt}
+use Rattle.number.specs.Value.{alternatingOf, signedOf}
 use Rattle.number.specs.declared.Number.the-variants.{Is, Refused}
 
 pub of-127 : numberBytes 127 ≡ 0x7F ∷ []
@@ -41,3 +43,28 @@ read-300 = refl
 pub read-none : numberAt [] 7 ≡ Refused 21
 unfolding numberAt numberOf taken lastOf valueOf
 read-none = refl
+
+-- exact at -1, 0 and the lowest value, there and back
+pub of-minus-1 : alternatingOf (negsuc 0) ≡ 1
+unfolding alternatingOf
+of-minus-1 = refl
+
+pub of-0 : alternatingOf (pos 0) ≡ 0
+unfolding alternatingOf
+of-0 = refl
+
+pub of-lowest : alternatingOf (negsuc 2147483647) ≡ 4294967295
+unfolding alternatingOf
+of-lowest = refl
+
+pub back-to-minus-1 : signedOf 1 ≡ negsuc 0
+unfolding signedOf
+back-to-minus-1 = refl
+
+pub back-to-0 : signedOf 0 ≡ pos 0
+unfolding signedOf
+back-to-0 = refl
+
+pub back-to-lowest : signedOf 4294967295 ≡ negsuc 2147483647
+unfolding signedOf
+back-to-lowest = refl

@@ -1,13 +1,15 @@
 -- Every value of 32 bits has its own number of 32 bits, and every such number stands for one.
 use Prim.Native.Nat.{ℕ, suc, _+_, _*_, _/_, _%_, _^_, _<_}
 use mathlib.Core.Bool.{Bool, true, false, cond}
-use mathlib.Core.Path.{_≡_, refl, ap}
+use mathlib.Core.Path.{_≡_, refl, sym, ap, _∙_}
 use native.Mathlib.Omega.{arith}
 use lib.Dec.{eqb}
 use lib.IntN.{ℤ, pos, negsuc, _*ℤ_, _-ℤ_, negℤ, negℤ-negℤ}
+use lib.Signed.{mag}
 use borrow.Author.Tests.{le-ltb, eq-eqb, ne-eqb, eqb-true, eqb-false}
 use mir.Syntax.{w32}
-use mir.Val.{SFits}
+use mir.Val.{SFits, toZ, ofZ}
+use mir.Facts.{toZ-ofZ}
 use Rattle.number.specs.Value.{alternatingOf, signedOf}
 
 -- it is 2v, or -2v - 1 below zero
@@ -46,3 +48,15 @@ signed-fits n h = go (eqb (n % 2) 0)
     go : (t : Bool) → SFits w32 (cond t (pos (n / 2)) (negsuc (n / 2)))
     go true = record { sfits = omega arith }
     go false = record { sfits = omega arith }
+
+-- the machine holds a value as bits, and reads the same value back from them
+pub value-of-bits : (v : ℤ) → mag v < 2 ^ 31 → toZ w32 (ofZ w32 v) ≡ v
+value-of-bits v h = toZ-ofZ {w = w32} {z = v} (record { sfits = h })
+
+-- so a number that was made from a value's bits is the value's
+pub alternating-of-bits : (v : ℤ) (n : ℕ) → mag v < 2 ^ 31 → n ≡ alternatingOf (toZ w32 (ofZ w32 v)) → alternatingOf v ≡ n
+alternating-of-bits v n h e = sym (e ∙ ap alternatingOf (value-of-bits v h))
+
+-- and the value of a number is itself again when it is read back
+pub signed-of-bits : (v : ℤ) (n : ℕ) → n < 2 ^ 32 → v ≡ signedOf n → toZ w32 (ofZ w32 v) ≡ signedOf n
+signed-of-bits v n h e = ap (λ (z : ℤ). toZ w32 (ofZ w32 z)) e ∙ value-of-bits (signedOf n) (signed-fits n h .sfits)

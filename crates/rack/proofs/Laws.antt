@@ -1,18 +1,12 @@
 -- What a test that the code makes says of a definition.
-use Prim.Native.Nat.{ℕ, suc, _+_, _-_, _^_, _≤_, _<_, min}
+use Prim.Native.Nat.{ℕ, suc, _+_, _-_, _≤_, _<_, min}
 use mathlib.Core.Path.{_≡_, refl, ap, sym, _∙_}
 use mathlib.Core.Bool.{Bool, true, false}
 use native.Mathlib.Omega.{arith}
 use mathlib.Core.List.{List}
 use lib.Dec.{ltb, leb}
 use lib.ListN.{getD, length}
-use lib.IntN.{ℤ}
-use mir.Syntax.{w32}
-use mir.Val.{toZ, ofZ}
-use mir.Facts.{toZ-ofZ}
 use borrow.Author.Tests.{lt-ltb, le-ltb, lt-leb, ltb-true, ltb-false}
-use Rattle.number.specs.Value.{signedOf}
-use Rattle.number.specs.ValueLaws.{signed-fits}
 use Rattle.plan.specs.declared.Party.{Party}
 use Rattle.rack.specs.declared.Rack.{Rack}
 use Rattle.rack.specs.Places.{idle}
@@ -91,9 +85,3 @@ pub bytes : (replicas clients cells : ℕ) → sizesFit (record { replicas = rep
 bytes replicas clients cells e =
     let z = sized (record { replicas = replicas; clients = clients; cells = cells }) e in
     record { first = omega (arith, z .replicas); second = omega (arith, z .clients); third = omega (arith, z .cells) }
-
--- ---- values
-
--- the machine holds bits: a value that was read is itself again when it is read back from them
-pub signed-held : (z : ℤ) (n : ℕ) → n < 2 ^ 32 → z ≡ signedOf n → toZ w32 (ofZ w32 z) ≡ signedOf n
-signed-held z n h e = ap (λ (y : ℤ). toZ w32 (ofZ w32 y)) e ∙ toZ-ofZ {w = w32} (signed-fits n h)

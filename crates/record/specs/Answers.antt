@@ -5,7 +5,7 @@ use Rattle.record.specs.declared.Found.{Found}
 use Rattle.record.specs.declared.Found.the-variants.{At, Fault}
 use Rattle.record.specs.declared.Answer.{Answer}
 use Rattle.record.specs.declared.Answer.the-variants.{All, Refused}
-use Rattle.record.specs.Entry.{rowOf}
+use Rattle.record.specs.Entry.{entryBytes}
 
 -- the refusal of an entry; 0 where one was found
 unfoldable pub foundRefusal : Found → ℕ
@@ -17,10 +17,10 @@ unfoldable pub foundNext : Found → ℕ
 foundNext (At e next) = next
 foundNext (Fault k) = 0
 
--- the entry's kind and values by the paper's numbers, as a row; none where it is refused
-unfoldable pub foundRow : Found → List ℕ
-foundRow (At e next) = rowOf e
-foundRow (Fault k) = []
+-- the entry's kind and values by the paper's numbers, as they are written; none where it is refused
+unfoldable pub foundBytes : Found → List ℕ
+foundBytes (At e next) = entryBytes e
+foundBytes (Fault k) = []
 
 -- the refusal of a record; 0 where nothing is refused
 unfoldable pub refusalIn : Answer → ℕ

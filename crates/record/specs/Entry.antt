@@ -1,8 +1,7 @@
 -- An entry: its kind and then its fields, each a number. The paper: "The record and its bytes".
-use Prim.Native.Nat.{ℕ, _+_}
-use mathlib.Core.List.{List, [], _∷_, _++_}
-use mathlib.Core.Bool.{cond, _||_, _&&_}
-use lib.ListN.{getD}
+use Prim.Native.Nat.{ℕ}
+use mathlib.Core.List.{List, _++_}
+use mathlib.Core.Bool.{cond}
 use lib.Dec.{ltb, eqb}
 use Rattle.number.specs.Number.{numberBytes, numberAt}
 use Rattle.number.specs.Value.{alternatingOf, signedOf}
@@ -45,29 +44,3 @@ entryAt s at =
     andThen (upTo 3 24 (numberAt s at)) (λ kind next.
     andThen (upTo 7 25 (numberAt s next)) (λ client more.
     fieldsAt s more kind client))
-
--- an entry in memory is a row of four numbers: kind, client, cell, value as it is written; a field its kind hasn't got stands as 0
-unfoldable pub rowOf : Entry → List ℕ
-rowOf (ReadAsked client cell) = 0 ∷ client .0 ∷ cell .0 ∷ 0 ∷ []
-rowOf (WriteAsked client cell v) = 1 ∷ client .0 ∷ cell .0 ∷ alternatingOf v ∷ []
-rowOf (Told client v) = 2 ∷ client .0 ∷ 0 ∷ alternatingOf v ∷ []
-rowOf (Done client) = 3 ∷ client .0 ∷ 0 ∷ 0 ∷ []
-
--- the entry of a row's four numbers; a field its kind hasn't got is no part of it
-unfoldable pub entryOf : ℕ → ℕ → ℕ → ℕ → Entry
-entryOf kind client cell value =
-    cond (eqb kind 0) (ReadAsked (record { 0 = client }) (record { 0 = cell }))
-    (cond (eqb kind 1) (WriteAsked (record { 0 = client }) (record { 0 = cell }) (signedOf value))
-    (cond (eqb kind 2) (Told (record { 0 = client }) (signedOf value))
-    (Done (record { 0 = client }))))
-
--- what a row's four numbers give, up to place next; 24: kind above 3; 25: client above 7 or cell above 15
-unfoldable pub rowFound : ℕ → ℕ → ℕ → ℕ → ℕ → Found
-rowFound kind client cell value next =
-    cond (ltb 3 kind) (Fault 24)
-    (cond (ltb 7 client || (ltb kind 2 && ltb 15 cell)) (Fault 25)
-    (At (entryOf kind client cell value) next))
-
--- what the row at place at of ws gives
-unfoldable pub rowAt : List ℕ → ℕ → Found
-rowAt ws at = rowFound (getD ws at 0) (getD ws (at + 1) 0) (getD ws (at + 2) 0) (getD ws (at + 3) 0) (at + 4)

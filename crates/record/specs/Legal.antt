@@ -1,5 +1,5 @@
 -- A record that has no fault: its entries are in range, and each may follow those before it. Reading gives such records only, and the
--- writer takes them all (specs/Trip.antt).
+-- writer takes them all (specs/Trip.antt here and in crate rows).
 use Prim.Native.Nat.{_≤_}
 use mathlib.Core.Path.{_≡_}
 use mathlib.Core.List.{List, [], _∷_}

@@ -1,11 +1,9 @@
--- The record: its entries one after another, what reading and writing one give, and what they leave in memory.
--- The paper: "The record and its bytes".
+-- The record: its entries one after another, and what its bytes hold. The paper: "The record and its bytes".
 use Prim.Native.Nat.{ℕ, zero, suc, _+_}
-use mathlib.Core.Path.{_≡_}
 use mathlib.Core.List.{List, [], _∷_, _++_}
 use mathlib.Core.Bool.{Bool, cond}
-use lib.ListN.{length, getD, set, drop}
-use lib.Dec.{ltb, leb, eqb}
+use lib.ListN.{length, getD, set}
+use lib.Dec.{ltb, eqb}
 use Rattle.record.specs.declared.Client.{Client}
 use Rattle.record.specs.declared.Entry.{Entry}
 use Rattle.record.specs.declared.Entry.the-variants.{ReadAsked, WriteAsked, Told, Done}
@@ -14,7 +12,7 @@ use Rattle.record.specs.declared.Found.the-variants.{At, Fault}
 use Rattle.record.specs.declared.Standing.{Standing}
 use Rattle.record.specs.declared.Answer.{Answer}
 use Rattle.record.specs.declared.Answer.the-variants.{All, Refused}
-use Rattle.record.specs.Entry.{entryBytes, entryAt, rowOf, rowAt}
+use Rattle.record.specs.Entry.{entryBytes, entryAt}
 
 -- the record holds at most 2,048 entries
 abbrev pub entryLimit : ℕ
@@ -72,10 +70,6 @@ heldFrom more found (suc left) at n st =
 unfoldable pub recordOf : List ℕ → Held
 recordOf s = heldFrom (λ at. ltb at (length s)) (entryAt s) entryLimit 0 0 fresh
 
--- what the rows ws hold; numbers after the last whole row are no entry
-unfoldable pub rowsHeld : List ℕ → Held
-rowsHeld ws = heldFrom (λ at. leb (at + 4) (length ws)) (rowAt ws) entryLimit 0 0 fresh
-
 -- the numbers of each entry, one after another
 unfoldable pub allOf : (Entry → List ℕ) → List Entry → List ℕ
 allOf f [] = []
@@ -85,53 +79,7 @@ allOf f (e ∷ es) = f e ++ allOf f es
 abbrev pub bytesOf : List Entry → List ℕ
 bytesOf es = allOf entryBytes es
 
--- the rows of a record
-abbrev pub rowsOf : List Entry → List ℕ
-rowsOf es = allOf rowOf es
-
 -- what is held, without memory for it: how many entries
 unfoldable pub surveyOf : Held → Answer
 surveyOf (entries es) = All (length es)
 surveyOf (fault k n) = Refused k n
-
--- and how many bytes they take
-unfoldable pub measureOf : Held → Answer
-measureOf (entries es) = All (length (bytesOf es))
-measureOf (fault k n) = Refused k n
-
--- what a call answers, and what then stands in the lent memory
-pub record Outcome : Type 0 where
-  pub answer : Answer
-  pub lent : List ℕ
-
--- an answer and memory are those of an outcome
-pub record Leaves (o : Outcome) (answer : Answer) (lent : List ℕ) : Type 0 where
-  pub answers : answer ≡ o .answer
-  pub leaves : lent ≡ o .lent
-
--- nothing is written
-abbrev pub refused : ℕ → ℕ → List ℕ → Outcome
-refused k n d = record { answer = Refused k n; lent = d }
-
--- out is written at the front, and what stands beyond it stays; 20: the lent memory is too short (entry 0 is named)
-unfoldable pub stored : List ℕ → ℕ → List ℕ → Outcome
-stored out count d =
-    cond (ltb (length d) (length out)) (refused 20 0 d) (record { answer = All count; lent = out ++ drop (length out) d })
-
--- reading what is held into lent memory d: how many entries
-unfoldable pub readInto : Held → List ℕ → Outcome
-readInto (fault k n) d = refused k n d
-readInto (entries es) d = stored (rowsOf es) (length es) d
-
--- writing what is held into lent memory d: how many bytes
-unfoldable pub writeInto : Held → List ℕ → Outcome
-writeInto (fault k n) d = refused k n d
-writeInto (entries es) d = stored (bytesOf es) (length (bytesOf es)) d
-
--- the reader: bytes to rows
-abbrev pub readOutcome : List ℕ → List ℕ → Outcome
-readOutcome s d = readInto (recordOf s) d
-
--- the writer: rows to bytes
-abbrev pub writeOutcome : List ℕ → List ℕ → Outcome
-writeOutcome ws d = writeInto (rowsHeld ws) d

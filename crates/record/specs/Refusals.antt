@@ -1,12 +1,11 @@
 -- Which refusals there are, and which entry each names.
 use Prim.Native.Nat.{ℕ, zero, suc, _+_, _<_, _≤_}
 use mathlib.Core.List.{List}
-use mathlib.Core.Path.{_≡_, refl, ap, _∙_, sym, subst}
-use mathlib.Core.Bool.{Bool, true, false, cond, _||_, _&&_}
-use mathlib.Core.Logic.{_⊎_, inl, inr}
+use mathlib.Core.Path.{_≡_, refl, _∙_, sym, subst}
+use mathlib.Core.Bool.{Bool, true, false, cond}
 use native.Mathlib.Omega.{arith}
-use lib.ListN.{length, getD}
-use lib.Dec.{ltb, leb, eqb}
+use lib.ListN.{length}
+use lib.Dec.{ltb, eqb}
 use borrow.Author.Tests.{eqb-true, eqb-false}
 use Rattle.number.specs.Number.{numberAt}
 use Rattle.number.specs.Laws.{refusal-bounds}
@@ -17,11 +16,10 @@ use Rattle.record.specs.declared.Entry.the-variants.{ReadAsked, WriteAsk
 use Rattle.record.specs.declared.Found.{Found}
 use Rattle.record.specs.declared.Found.the-variants.{At, Fault}
 use Rattle.record.specs.declared.Standing.{Standing}
-use Rattle.record.specs.declared.Answer.the-variants.{All, Refused}
-use Rattle.record.specs.Entry.{upTo, andThen, fieldsAt, entryAt, rowFound, rowAt}
-use Rattle.record.specs.Record.{entryLimit, fresh, faultAfter, standingAfter, openBy, Held, entries, fault, before, heldFrom, recordOf, rowsHeld, bytesOf, rowsOf, Outcome, stored, readInto, writeInto, readOutcome, writeOutcome}
+use Rattle.record.specs.declared.Answer.the-variants.{Refused}
+use Rattle.record.specs.Entry.{upTo, andThen, fieldsAt, entryAt}
+use Rattle.record.specs.Record.{entryLimit, fresh, faultAfter, standingAfter, openBy, Held, entries, fault, before, heldFrom, recordOf}
 use Rattle.record.specs.Steps.{ends, full, unread, misplaced, onward}
-use Rattle.record.specs.Trip.{Stores, short, fits, stores}
 
 -- ---- one entry
 
@@ -29,7 +27,7 @@ use Rattle.record.specs.Trip.{Stores, short, fits, stores}
 abbrev Within : ℕ → ℕ → Type 0
 Within low k = (low ≤ k) × (k ≤ 25)
 
-no-at : {A : Type 0} {e : Entry} {next k : ℕ} → At e next ≡ Fault k → A
+pub no-at : {A : Type 0} {e : Entry} {next k : ℕ} → At e next ≡ Fault k → A
 no-at p = let z : _≡_ {A = ℕ} 0 1 = cc in absurd (omega arith)
 
 -- either way of a test
@@ -75,16 +73,6 @@ entry-faults s at k p =
     (λ kind next q. then-fault k (upTo 7 25 (numberAt s next)) _ (λ j. limit-fault s next 7 25 j (omega arith, omega arith))
     (λ client more r. fields-fault s more kind client k r) q) p
 
--- a row with 24 or 25
-pub row-faults : (ws : List ℕ) (at k : ℕ) → rowAt ws at ≡ Fault k → (24 ≤ k) × (k ≤ 25)
-unfolding rowAt rowFound
-row-faults ws at k p = go (ltb 3 (getD ws at 0)) (ltb 7 (getD ws (at + 1) 0) || (ltb (getD ws at 0) 2 && ltb 15 (getD ws (at + 2) 0))) _ p
-  where
-    go : (t u : Bool) (e : Entry) → cond t (Fault 24) (cond u (Fault 25) (At e (at + 4))) ≡ Fault k → (24 ≤ k) × (k ≤ 25)
-    go true u e q = let i : 24 ≡ k = cc in (omega arith, omega arith)
-    go false true e q = let i : 25 ≡ k = cc in (omega arith, omega arith)
-    go false false e q = no-at q
-
 unless : (t : Bool) (k : ℕ) → 26 ≤ k → k ≤ 27 → (cond t 0 k ≡ 0 → ⊥) → (26 ≤ cond t 0 k) × (cond t 0 k ≤ 27)
 unless true k l m h = absurd (h refl)
 unless false k l m h = (l, m)
@@ -122,7 +110,7 @@ module _ (more : ℕ → Bool) (found : ℕ → Found) (low : ℕ) (early : low 
       let b : n ≡ m = cc in
       record { least = omega arith; most = omega arith; last = λ x. absurd (omega arith); early = λ x. omega arith }
 
-  named : (left at n : ℕ) (st : Standing) (k m : ℕ) → heldFrom more found left at n st ≡ fault k m → Named low k m (n + left)
+  pub named : (left at n : ℕ) (st : Standing) (k m : ℕ) → heldFrom more found left at n st ≡ fault k m → Named low k m (n + left)
   named zero at n st k m p = go (more at) refl
     where
       go : (t : Bool) → more at ≡ t → Named low k m (n + zero)
@@ -152,66 +140,7 @@ module _ (more : ℕ → Bool) (found : ℕ → Found) (low : ℕ) (early : low 
           at-entry left n j k m (b .0) (omega (arith, b .1)) (sym (unread more found left at n j st h g) ∙ p)
       go true h (At e next) g ih = checked (eqb (faultAfter st e) 0) e next h g refl ih
 
--- bytes hold a fault from 21 to 28, rows one from 24 to 28
+-- bytes hold a fault from 21 to 28
 pub record-faults : (s : List ℕ) (k n : ℕ) → recordOf s ≡ fault k n → Named 21 k n 2048
 unfolding recordOf
 record-faults s k n p = named (λ at. ltb at (length s)) (entryAt s) 21 (omega arith) (entry-faults s) entryLimit 0 0 fresh k n p
-
-pub rows-faults : (ws : List ℕ) (k n : ℕ) → rowsHeld ws ≡ fault k n → Named 24 k n 2048
-unfolding rowsHeld
-rows-faults ws k n p = named (λ at. leb (at + 4) (length ws)) (rowAt ws) 24 (omega arith) (row-faults ws) entryLimit 0 0 fresh k n p
-
--- a refusal with 20, or from low to 28: 20 names entry 0, 28 names entry 2,048, and every other one before that
-pub record Refusal (low k n : ℕ) : Type 0 where
-  pub which : (k ≡ 20) ⊎ (low ≤ k)
-  pub most : k ≤ 28
-  pub room : k ≡ 20 → n ≡ 0
-  pub last : k ≡ 28 → n ≡ 2048
-  pub early : k < 28 → n < 2048
-
-of-fault : {low k n : ℕ} → 20 < low → Named low k n 2048 → Refusal low k n
-of-fault h w = record {
-  which = inr (w .least);
-  most = w .most;
-  room = λ x. absurd (omega (arith, w .least));
-  last = w .last;
-  early = w .early;
-}
-
--- where all is held, only room can be missing
-of-room : (low : ℕ) (out : List ℕ) (count : ℕ) (d : List ℕ) (k n : ℕ) → stored out count d .answer ≡ Refused k n → Refusal low k n
-of-room low out count d k n p = go (stores out count d)
-  where
-    go : Stores out count d → Refusal low k n
-    go (short q) =
-        let r : Refused 20 0 ≡ Refused k n = sym (ap (λ (o : Outcome). o .answer) q) ∙ p in
-        let a : 20 ≡ k = cc in
-        let b : 0 ≡ n = cc in
-        record { which = inl (sym a); most = omega arith; room = λ x. sym b; last = λ x. absurd (omega arith); early = λ x. omega arith }
-    go (fits q) =
-        let r : All count ≡ Refused k n = sym (ap (λ (o : Outcome). o .answer) q) ∙ p in
-        let z : _≡_ {A = ℕ} 0 1 = cc in absurd (omega arith)
-
--- reading refuses with 20 to 28
-pub read-refusals : (s d : List ℕ) (k n : ℕ) → readOutcome s d .answer ≡ Refused k n → Refusal 21 k n
-unfolding readInto
-read-refusals s d k n p = go (recordOf s) refl p
-  where
-    go : (h : Held) → recordOf s ≡ h → readInto h d .answer ≡ Refused k n → Refusal 21 k n
-    go (fault j m) e q =
-        let a : j ≡ k = cc in
-        let b : m ≡ n = cc in
-        of-fault (omega arith) (record-faults s k n (e ∙ cc))
-    go (entries es) e q = of-room 21 (rowsOf es) (length es) d k n q
-
--- writing with 20 and 24 to 28
-pub write-refusals : (ws d : List ℕ) (k n : ℕ) → writeOutcome ws d .answer ≡ Refused k n → Refusal 24 k n
-unfolding writeInto
-write-refusals ws d k n p = go (rowsHeld ws) refl p
-  where
-    go : (h : Held) → rowsHeld ws ≡ h → writeInto h d .answer ≡ Refused k n → Refusal 24 k n
-    go (fault j m) e q =
-        let a : j ≡ k = cc in
-        let b : m ≡ n = cc in
-        of-fault (omega arith) (rows-faults ws k n (e ∙ cc))
-    go (entries es) e q = of-room 24 (bytesOf es) (length (bytesOf es)) d k n q

@@ -4,12 +4,12 @@ use mathlib.Core.List.{List, [], _∷_}
 use mathlib.Core.Path.{_≡_, refl}
 use lib.IntN.{pos}
 use Rattle.number.specs.Number.{taken, lastOf, valueOf, numberOf, numberAt}
-use Rattle.number.specs.Value.{alternatingOf, signedOf}
+use Rattle.number.specs.Value.{signedOf}
 use Rattle.record.specs.declared.Entry.{Entry}
 use Rattle.record.specs.declared.Entry.the-variants.{ReadAsked, WriteAsked, Told, Done}
 use Rattle.record.specs.declared.Found.the-variants.{At, Fault}
-use Rattle.record.specs.Entry.{upTo, andThen, fieldsAt, entryAt, rowOf, entryOf, rowFound, rowAt}
-use Rattle.record.specs.Record.{faultAfter, standingAfter, entries, fault, before, enter, heldFrom, recordOf, rowsHeld, allOf, rowsOf}
+use Rattle.record.specs.Entry.{upTo, andThen, fieldsAt, entryAt}
+use Rattle.record.specs.Record.{faultAfter, standingAfter, entries, fault, before, enter, heldFrom, recordOf}
 
 -- client 0 writes 5 to cell 2, client 1 reads 5
 abbrev pub sheetBytes : List ℕ
@@ -27,10 +27,6 @@ pub sheet-reads : recordOf sheetBytes ≡ entries sheetEntries
 unfolding recordOf heldFrom enter before faultAfter standingAfter entryAt fieldsAt upTo andThen numberAt numberOf taken lastOf valueOf signedOf
 sheet-reads = refl
 
-pub sheet-rows : rowsOf sheetEntries ≡ 1 ∷ 0 ∷ 2 ∷ 10 ∷ 3 ∷ 0 ∷ 0 ∷ 0 ∷ 0 ∷ 1 ∷ 2 ∷ 0 ∷ 2 ∷ 1 ∷ 0 ∷ 10 ∷ []
-unfolding allOf rowOf alternatingOf
-sheet-rows = refl
-
 -- there is no client 8, and no cell 16
 pub client-8 : entryAt (0x00 ∷ 0x08 ∷ 0x00 ∷ []) 0 ≡ Fault 25
 unfolding entryAt fieldsAt upTo andThen numberAt numberOf taken lastOf valueOf
@@ -39,10 +35,6 @@ client-8 = refl
 pub cell-16 : entryAt (0x00 ∷ 0x00 ∷ 0x10 ∷ []) 0 ≡ Fault 25
 unfolding entryAt fieldsAt upTo andThen numberAt numberOf taken lastOf valueOf
 cell-16 = refl
-
-pub row-client-8 : rowsHeld (0 ∷ 8 ∷ 0 ∷ 0 ∷ []) ≡ fault 25 0
-unfolding rowsHeld heldFrom enter rowAt rowFound
-row-client-8 = refl
 
 -- a kind and a client are the whole of a done entry
 pub done-short : entryAt (0x03 ∷ 0x00 ∷ 0x07 ∷ []) 0 ≡ At (Done (record { 0 = 0 })) 2
@@ -62,8 +54,3 @@ asked-twice = refl
 pub told-unasked : recordOf (0x02 ∷ 0x00 ∷ 0x0A ∷ []) ≡ fault 27 0
 unfolding recordOf heldFrom enter before faultAfter standingAfter entryAt fieldsAt upTo andThen numberAt numberOf taken lastOf valueOf signedOf
 told-unasked = refl
-
--- one row; its field that a read asked hasn't got is no part of it
-pub one-row : rowsHeld (0 ∷ 0 ∷ 2 ∷ 77 ∷ []) ≡ entries (ReadAsked (record { 0 = 0 }) (record { 0 = 2 }) ∷ [])
-unfolding rowsHeld heldFrom enter before faultAfter standingAfter rowAt rowFound entryOf
-one-row = refl

@@ -1,10 +1,10 @@
 -- How what is held goes on, entry by entry: the loops of the reader and of the writer lean on these laws alone.
-use Prim.Native.Nat.{ℕ, zero, suc, _+_, _-_}
+use Prim.Native.Nat.{ℕ, zero, suc, _+_}
 use mathlib.Core.Path.{_≡_, refl, sym, ap, _∙_}
 use mathlib.Core.List.{List, [], _∷_}
 use mathlib.Core.Bool.{Bool, true, false, cond}
 use native.Mathlib.Omega.{arith}
-use lib.ListN.{length, length-append}
+use lib.ListN.{length}
 use lib.Dec.{eqb}
 use borrow.Author.Tests.{eq-eqb, ne-eqb, eqb-true, eqb-false}
 use Rattle.record.specs.declared.Entry.{Entry}
@@ -13,8 +13,7 @@ use Rattle.record.specs.declared.Found.the-variants.{At, Fault}
 use Rattle.record.specs.declared.Standing.{Standing}
 use Rattle.record.specs.declared.Answer.{Answer}
 use Rattle.record.specs.declared.Answer.the-variants.{All, Refused}
-use Rattle.record.specs.Entry.{entryBytes}
-use Rattle.record.specs.Record.{entryLimit, faultAfter, standingAfter, Held, entries, fault, before, enter, heldFrom, allOf, surveyOf, measureOf}
+use Rattle.record.specs.Record.{entryLimit, faultAfter, standingAfter, Held, entries, fault, before, enter, heldFrom, surveyOf}
 
 -- ---- one step
 
@@ -154,20 +153,10 @@ unfolding total
 total-one [] = refl
 total-one (e ∷ es) = omega (arith, total-one es)
 
-pub total-all : (f : Entry → List ℕ) (es : List Entry) → total (λ e. length (f e)) es ≡ length (allOf f es)
-unfolding total allOf
-total-all f [] = refl
-total-all f (e ∷ es) = simp length-append (omega (arith, total-all f es))
-
 pub survey-tally : (h : Held) → surveyOf h ≡ tally (λ e. 1) 0 h
 unfolding surveyOf tally
 survey-tally (entries es) = ap All (omega (arith, total-one es))
 survey-tally (fault k n) = refl
-
-pub measure-tally : (h : Held) → measureOf h ≡ tally (λ e. length (entryBytes e)) 0 h
-unfolding measureOf tally
-measure-tally (entries es) = ap All (omega (arith, total-all entryBytes es))
-measure-tally (fault k n) = refl
 
 -- ---- counting, entry by entry
 

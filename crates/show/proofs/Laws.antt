@@ -1,5 +1,5 @@
 -- What one more text, entry or place leaves.
-use Prim.Native.Nat.{ℕ, suc, _+_, _≤_, _^_, _<_, min}
+use Prim.Native.Nat.{ℕ, suc, _+_, _≤_, _<_, min}
 use mathlib.Core.Path.{_≡_, refl, sym, ap, _∙_}
 use mathlib.Core.List.{List, [], _∷_, _++_, map, append-assoc, append-nil}
 use mathlib.Core.Bool.{Bool, true, false}
@@ -7,14 +7,8 @@ use native.Mathlib.Omega.{arith}
 use native.Mathlib.Numerals.{add-one}
 use lib.ListN.{length, getD, take}
 use lib.Seq.{take-suc, take-all}
-use lib.IntN.{ℤ}
-use lib.Signed.{mag}
 use lib.Dec.{ltb}
 use borrow.Author.Tests.{ltb-true, ltb-false}
-use mir.Syntax.{w32}
-use mir.Val.{toZ, ofZ}
-use mir.Facts.{toZ-ofZ}
-use Rattle.number.specs.Value.{alternatingOf}
 use Rattle.text.specs.Text.{hexText, Printed}
 use Rattle.text.specs.Printing.{nothing, join, same-text, hex-append}
 use Rattle.record.specs.Entry.{entryBytes}
@@ -35,15 +29,6 @@ module _ {l : List ℕ} {at : ℕ} (f : ℕ → List ℕ) where
 
   pub each-all : (i n : ℕ) {a : ℕ} {l′ : List ℕ} → i ≤ n → n ≤ i → Printed l at (eachBelow i f) a l′ → Printed l at (eachBelow n f) a l′
   each-all i n h k v = let e : i ≡ n = omega arith in same-text (ap (λ (m : ℕ). eachBelow m f) e) v
-
--- ---- a value that was handed on is the value itself
-
-pub handed : (v : ℤ) → mag v < 2 ^ 31 → toZ w32 (ofZ w32 v) ≡ v
-handed v h = toZ-ofZ {w = w32} {z = v} (record { sfits = h })
-
--- and so is its number
-pub alternated : (v : ℤ) (n : ℕ) → mag v < 2 ^ 31 → n ≡ alternatingOf (toZ w32 (ofZ w32 v)) → alternatingOf v ≡ n
-alternated v n h e = sym (e ∙ ap alternatingOf (handed v h))
 
 -- ---- the record's entries in hex
 

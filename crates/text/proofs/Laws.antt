@@ -7,9 +7,6 @@ use native.Mathlib.Numerals.{add-one}
 use lib.ListN.{length, getD, take, drop}
 use lib.Seq.{take-suc, take-all, sets, sets-eq, length-sets, take-append-seam}
 use lib.IntN.{ℤ, pos, negsuc}
-use mir.Syntax.{w32}
-use mir.Val.{SFits, toZ, ofZ}
-use mir.Facts.{toZ-ofZ}
 use borrow.Author.Tests.{lt-ltb, le-ltb}
 use Rattle.number.specs.Value.{alternatingOf}
 use Rattle.number.specs.Number.{numberBytes, Placed}
@@ -69,10 +66,6 @@ module _ (l : List ℕ) (at : ℕ) where
       rw (le-ltb n 10 h) (join (same-text (ap (λ (k : ℕ). digitsOf k (n / 10)) same) v) w)
 
 -- ---- values
-
--- what `alternating` was handed is the value itself
-pub handed : (v : ℤ) (n : ℕ) → SFits w32 v → n ≡ alternatingOf (toZ w32 (ofZ w32 v)) → n ≡ alternatingOf v
-handed v n h e = e ∙ ap alternatingOf (toZ-ofZ {w = w32} {z = v} h)
 
 module _ {l : List ℕ} {at r : ℕ} {l′ : List ℕ} where
   pub value-even : (v : ℤ) (n : ℕ) → n ≡ alternatingOf v → n % 2 ≡ 0 → Printed l at (decimal (n / 2)) r l′ → Printed l at (valueText v) r l′

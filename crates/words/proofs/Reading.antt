@@ -1,5 +1,5 @@
 -- Arrays that are read place by place, and what the tests of a part's words tell.
-use Prim.Native.Nat.{ℕ, zero, suc, _+_, _^_, _≤_, _<_}
+use Prim.Native.Nat.{ℕ, zero, suc, _+_, _≤_, _<_}
 use mathlib.Core.Path.{_≡_, refl, ap, sym, _∙_}
 use mathlib.Core.Bool.{Bool, true, false, _&&_, _||_}
 use mathlib.Core.List.{List, [], _∷_, _++_, append-nil}
@@ -7,13 +7,7 @@ use native.Mathlib.Omega.{arith}
 use lib.Dec.{ltb, eqb}
 use lib.ListN.{length, set, drop, length-append, length-drop, drop-of-length-le, replicate, replicate-append-replicate}
 use lib.Seq.{drop-cons, set-at, append-snoc}
-use lib.IntN.{ℤ}
-use mir.Syntax.{w32}
-use mir.Val.{toZ, ofZ}
-use mir.Facts.{toZ-ofZ}
 use borrow.Author.Tests.{lt-ltb, le-ltb, ltb-true}
-use Rattle.number.specs.Value.{signedOf}
-use Rattle.number.specs.ValueLaws.{signed-fits}
 use Rattle.rack.specs.Sound.{allBelow}
 use Rattle.plan.specs.Tests.{and-left, and-right}
 use Rattle.words.specs.Layout.{entryPlace, word, firsts}
@@ -65,10 +59,6 @@ pub zeros : (n : ℕ) → firsts {A = ℕ} n (λ i. 0) ≡ replicate n 0
 unfolding firsts
 zeros zero = refl
 zeros (suc n) = let e : suc n ≡ n + 1 = omega arith in ap (λ (r : List ℕ). r ++ (0 ∷ [])) (zeros n) ∙ replicate-append-replicate n 1 0 ∙ ap (λ (k : ℕ). replicate k 0) (sym e)
-
--- a value that was read
-pub signed-held : (z : ℤ) (n : ℕ) → n < 2 ^ 32 → z ≡ signedOf n → toZ w32 (ofZ w32 z) ≡ signedOf n
-signed-held z n h e = ap (λ (y : ℤ). toZ w32 (ofZ w32 y)) e ∙ toZ-ofZ {w = w32} (signed-fits n h)
 
 -- the operation numbers of what is known
 pub party-op : (stopped op phase goal : ℕ) → partyKnown stopped op phase goal ≡ true → op < 65536

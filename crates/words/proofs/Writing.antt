@@ -1,16 +1,10 @@
 -- Words that are written one after another.
-use Prim.Native.Nat.{ℕ, suc, _+_, _^_, _≤_, _<_}
+use Prim.Native.Nat.{ℕ, suc, _+_, _≤_, _<_}
 use mathlib.Core.Path.{_≡_, refl, ap, sym, _∙_}
 use mathlib.Core.List.{List, [], _∷_, _++_}
 use native.Mathlib.Omega.{arith}
 use lib.ListN.{length, getD, set, take}
 use lib.Seq.{sets, length-sets, take-suc, take-all, length-take-le}
-use lib.IntN.{ℤ}
-use lib.Signed.{mag}
-use mir.Syntax.{w32}
-use mir.Val.{toZ, ofZ}
-use mir.Facts.{toZ-ofZ}
-use Rattle.number.specs.Value.{alternatingOf}
 use Rattle.record.specs.declared.Cell.{Cell}
 use Rattle.plan.specs.declared.Goal.{Goal}
 use Rattle.plan.specs.declared.Held.the-variants.{Full}
@@ -83,10 +77,6 @@ stores-on place f n d e o i g h p =
 
 pub stores-end : (place : ℕ → ℕ) (f : ℕ → List ℕ) (n : ℕ) (d e : List ℕ) (i : ℕ) → Storing place f n d e i → n ≤ i → e ≡ putFirsts n place f d
 stores-end place f n d e i g h = let k : i ≡ n = omega (arith, g .most) in g .list ∙ ap (λ (j : ℕ). putFirsts j place f d) k
-
--- a value that is written
-pub alternated : (z : ℤ) (r : ℕ) → mag z < 2 ^ 31 → r ≡ alternatingOf (toZ w32 (ofZ w32 z)) → alternatingOf z ≡ r
-alternated z r h e = sym (e ∙ ap alternatingOf (toZ-ofZ {w = w32} {z = z} (record { sfits = h })))
 
 -- part after part
 pub written : (r : Rack) (d a b c e : List ℕ) → a ≡ headOf r d → b ≡ pairsPut r (partiesPut r a) → c ≡ wirePut r b → e ≡ recordPut r c → e ≡ writtenOf r d

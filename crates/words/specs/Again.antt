@@ -9,7 +9,7 @@ use lib.ListN.{length, getD, drop, replicate, List·getD-append}
 use lib.Seq.{length-sets}
 use borrow.Author.Tests.{lt-ltb, le-ltb}
 use Rattle.record.specs.declared.Entry.the-variants.{ReadAsked, Done}
-use Rattle.record.specs.Entry.{rowOf}
+use Rattle.rows.specs.Row.{rowOf}
 use Rattle.rack.specs.declared.Line.{Line}
 use Rattle.plan.specs.declared.Pair.{Pair}
 use Rattle.plan.specs.declared.Party.{Party}

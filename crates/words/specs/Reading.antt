@@ -6,7 +6,7 @@ use lib.Dec.{ltb, eqb}
 use lib.ListN.{drop, replicate}
 use Rattle.number.specs.Value.{signedOf}
 use Rattle.record.specs.declared.Entry.the-variants.{Done}
-use Rattle.record.specs.Entry.{entryOf}
+use Rattle.rows.specs.Row.{entryOf}
 use Rattle.record.specs.Record.{entryLimit}
 use Rattle.plan.specs.declared.Pair.{Pair}
 use Rattle.plan.specs.declared.Body.{Body}

@@ -12,7 +12,7 @@ use Rattle.number.specs.ValueLaws.{signed-alternating}
 use Rattle.record.specs.declared.Cell.{Cell}
 use Rattle.record.specs.declared.Entry.{Entry}
 use Rattle.record.specs.declared.Entry.the-variants.{ReadAsked, WriteAsked, Told, Done}
-use Rattle.record.specs.Entry.{entryOf, rowOf}
+use Rattle.rows.specs.Row.{entryOf, rowOf}
 use Rattle.plan.specs.declared.Pair.{Pair}
 use Rattle.plan.specs.declared.Body.{Body}
 use Rattle.plan.specs.declared.Body.the-variants.{Ask, Tell, Keep, Kept}

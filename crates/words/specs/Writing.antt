@@ -9,7 +9,7 @@ use Rattle.number.specs.Value.{alternatingOf}
 use Rattle.record.specs.declared.Cell.{Cell}
 use Rattle.record.specs.declared.Entry.{Entry}
 use Rattle.record.specs.declared.Entry.the-variants.{ReadAsked}
-use Rattle.record.specs.Entry.{rowOf}
+use Rattle.rows.specs.Row.{rowOf}
 use Rattle.plan.specs.declared.Pair.{Pair}
 use Rattle.plan.specs.declared.Body.{Body}
 use Rattle.plan.specs.declared.Body.the-variants.{Ask, Tell, Keep, Kept}

@@ -5,7 +5,7 @@ ghost use Prim.Native.Nat.{_+_, _*_, _≤_, _<_};
 ghost use lib.ListN.{length, getD, replicate};
 ghost use lib.Seq.{sets};
 ghost use lib.Dec.{ltb};
-ghost use Rattle.record.specs.Entry.{entryOf, rowOf};
+ghost use Rattle.rows.specs.Row.{entryOf, rowOf};
 ghost use Rattle.plan.specs.Stamp.{freshPair};
 ghost use Rattle.rack.specs.Places.{idle, heldIn};
 ghost use Rattle.rack.specs.Sound.{allBelow, soundOf};

@@ -1,6 +1,6 @@
 -- `back::row_of` meets its contract. Assumes nothing.
-use Rattle.record.specs.Entry.{rowOf}
-use Rattle.back.proofs.Laws.{alternated}
+use Rattle.rows.specs.Row.{rowOf}
+use Rattle.number.specs.ValueLaws.{alternating-of-bits}
 use borrow.Author.Needs.{needs}
 use Rattle.back.proofs.row_of.Statement.{statement}
 use Rattle.back.proofs.row_of.Tie as tie
@@ -47,11 +47,11 @@ returns c = simp (c .before .before .before .e .given .1)
 
 returns-2 : tie.Need-returns-2
 unfolding rowOf
-returns-2 c = simp (c .before .before .before .before .e2 .given .1, alternated (c .before .before .before .before .e2 .given .0 .1 .1 .0) (c .alternating .result) (search needs) (c .alternating .ensures))
+returns-2 c = simp (c .before .before .before .before .e2 .given .1, alternating-of-bits (c .before .before .before .before .e2 .given .0 .1 .1 .0) (c .alternating .result) (search needs) (c .alternating .ensures))
 
 returns-3 : tie.Need-returns-3
 unfolding rowOf
-returns-3 c = simp (c .before .before .before .e3 .given .1, alternated (c .before .before .before .e3 .given .0 .1 .0) (c .alternating2 .result) (search needs) (c .alternating2 .ensures))
+returns-3 c = simp (c .before .before .before .e3 .given .1, alternating-of-bits (c .before .before .before .e3 .given .0 .1 .0) (c .alternating2 .result) (search needs) (c .alternating2 .ensures))
 
 returns-4 : tie.Need-returns-4
 unfolding rowOf

@@ -1,8 +1,6 @@
 -- `exports::adze_alternating` meets its contract. Assumes nothing.
-use mathlib.Core.Path.{ap, _∙_}
-use mir.Syntax.{w32}
-use mir.Facts.{toZ-ofZ}
-use Rattle.number.specs.Value.{alternatingOf}
+use mathlib.Core.Path.{sym}
+use Rattle.number.specs.ValueLaws.{alternating-of-bits}
 use borrow.Author.Needs.{needs}
 use Rattle.exports.proofs.adze_alternating.Statement.{statement}
 use Rattle.exports.proofs.adze_alternating.Tie as tie
@@ -14,7 +12,7 @@ alternating-requires : tie.Need-alternating-requires
 alternating-requires c κs = search needs
 
 returns : tie.Need-returns
-returns c = c .alternating .ensures ∙ ap alternatingOf (toZ-ofZ {w = w32} (c .before .fits .v))
+returns c = sym (alternating-of-bits _ _ (c .before .fits .v .sfits) (c .alternating .ensures))
 
 pub adze-alternating-spec : {M : Type 1} → statement M
 adze-alternating-spec = tie.close (tie.spec alternating-requires returns)

@@ -8,7 +8,7 @@ use Rattle.exports.proofs.adze_read_record.Tie as tie
 use Rattle.exports.proofs.adze_read_record.Reads as reads
 use Rattle.exports.proofs.adze_read_record.Lts as lts
 use Rattle.exports.proofs.packed.Reads as packed-reads
-use Rattle.record.proofs.read_record.Reads as read-record-reads
+use Rattle.rows.proofs.read_record.Reads as read-record-reads
 
 read-record-requires : tie.Need-read-record-requires
 read-record-requires c κs = search needs

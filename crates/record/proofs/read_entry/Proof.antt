@@ -2,7 +2,7 @@
 use mathlib.Core.Path.{sym, _∙_}
 use native.Mathlib.Omega.{arith}
 use Rattle.record.specs.Entry.{andThen, entryAt}
-use Rattle.record.proofs.Laws.{up-to-below}
+use Rattle.record.specs.EntryTrip.{passed}
 use borrow.Author.Needs.{needs}
 use Rattle.record.proofs.read_entry.Statement.{statement}
 use Rattle.record.proofs.read_entry.Tie as tie
@@ -30,7 +30,7 @@ enum-known-client : tie.Need-enum-known-client
 enum-known-client c = search needs
 
 cast-read-fields : tie.Need-cast-read-fields
-cast-read-fields c = omega (arith, up-to-below 7 25 _ _ _ (sym (c .before .before .before .read-up-to2 .ensures) ∙ c .before .client .given .1))
+cast-read-fields c = omega (arith, passed 7 25 _ _ _ (sym (c .before .before .before .read-up-to2 .ensures) ∙ c .before .client .given .1) .1)
 
 read-fields-requires : tie.Need-read-fields-requires
 read-fields-requires c κs = search needs

@@ -3,7 +3,8 @@ use mathlib.Core.Path.{sym, _∙_}
 use native.Mathlib.Omega.{arith}
 use borrow.Author.Tests.{eq-eqb, ne-eqb}
 use Rattle.record.specs.Entry.{andThen, fieldsAt}
-use Rattle.record.proofs.Laws.{up-to-below, held}
+use Rattle.record.specs.EntryTrip.{passed}
+use Rattle.number.specs.ValueLaws.{signed-of-bits}
 use borrow.Author.Needs.{needs}
 use Rattle.record.proofs.read_fields.Statement.{statement}
 use Rattle.record.proofs.read_fields.Tie as tie
@@ -35,7 +36,7 @@ returns-2 c = simp (ne-eqb _ _ (c .before .before .before .before .before .if1 .
 
 returns-3 : tie.Need-returns-3
 unfolding fieldsAt andThen
-returns-3 c = simp (ne-eqb _ _ (c .before .before .before .before .before .before .if1 .left), eq-eqb _ _ (c .before .before .before .before .before .if2 .taken), sym (c .before .before .before .before .read-number .ensures) ∙ c .before .before .v .given .1, held (c .signed .result) (c .before .before .v .given .0 .0) (omega arith) (c .signed .ensures))
+returns-3 c = simp (ne-eqb _ _ (c .before .before .before .before .before .before .if1 .left), eq-eqb _ _ (c .before .before .before .before .before .if2 .taken), sym (c .before .before .before .before .read-number .ensures) ∙ c .before .before .v .given .1, signed-of-bits (c .signed .result) (c .before .before .v .given .0 .0) (omega arith) (c .signed .ensures))
 
 read-up-to-requires : tie.Need-read-up-to-requires
 read-up-to-requires c κs = search needs
@@ -47,7 +48,7 @@ enum-known-cell : tie.Need-enum-known-cell
 enum-known-cell c = search needs
 
 cast-t26 : tie.Need-cast-t26
-cast-t26 c = omega (arith, up-to-below 15 25 _ _ _ (sym (c .before .before .before .before .read-up-to .ensures) ∙ c .before .before .cell .given .1))
+cast-t26 c = omega (arith, passed 15 25 _ _ _ (sym (c .before .before .before .before .read-up-to .ensures) ∙ c .before .before .cell .given .1) .1)
 
 returns-4 : tie.Need-returns-4
 unfolding fieldsAt andThen
@@ -63,7 +64,7 @@ enum-known-v-2 : tie.Need-enum-known-v-2
 enum-known-v-2 c = search needs
 
 cast-t32 : tie.Need-cast-t32
-cast-t32 c = omega (arith, up-to-below 15 25 _ _ _ (sym (c .before .before .before .before .before .before .before .before .read-up-to .ensures) ∙ c .before .before .before .before .before .before .cell .given .1))
+cast-t32 c = omega (arith, passed 15 25 _ _ _ (sym (c .before .before .before .before .before .before .before .before .read-up-to .ensures) ∙ c .before .before .before .before .before .before .cell .given .1) .1)
 
 signed-requires-2 : tie.Need-signed-requires-2
 signed-requires-2 c κs = search needs
@@ -78,7 +79,7 @@ returns-6 c = simp (ne-eqb _ _ (c .before .before .before .before .before .befor
 
 returns-7 : tie.Need-returns-7
 unfolding fieldsAt andThen
-returns-7 c = simp (ne-eqb _ _ (c .before .before .before .before .before .before .before .before .before .before .before .if1 .left), ne-eqb _ _ (c .before .before .before .before .before .before .before .before .before .before .if2 .left), sym (c .before .before .before .before .before .before .before .before .before .read-up-to .ensures) ∙ c .before .before .before .before .before .before .before .cell .given .1, ne-eqb _ _ (c .before .before .before .before .before .if3 .left), sym (c .before .before .before .before .read-number2 .ensures) ∙ c .before .before .v2 .given .1, held (c .signed2 .result) (c .before .before .v2 .given .0 .0) (omega arith) (c .signed2 .ensures))
+returns-7 c = simp (ne-eqb _ _ (c .before .before .before .before .before .before .before .before .before .before .before .if1 .left), ne-eqb _ _ (c .before .before .before .before .before .before .before .before .before .before .if2 .left), sym (c .before .before .before .before .before .before .before .before .before .read-up-to .ensures) ∙ c .before .before .before .before .before .before .before .cell .given .1, ne-eqb _ _ (c .before .before .before .before .before .if3 .left), sym (c .before .before .before .before .read-number2 .ensures) ∙ c .before .before .v2 .given .1, signed-of-bits (c .signed2 .result) (c .before .before .v2 .given .0 .0) (omega arith) (c .signed2 .ensures))
 
 pub read-fields-spec : {M : Type 1} → statement M
 read-fields-spec =

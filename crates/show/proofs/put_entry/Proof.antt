@@ -1,7 +1,7 @@
 -- `show::put_entry` meets its contract. Assumes nothing.
 use borrow.Author.Needs.{needs}
 use Rattle.record.specs.Entry.{entryBytes}
-use Rattle.show.proofs.Laws.{alternated}
+use Rattle.number.specs.ValueLaws.{alternating-of-bits}
 use Rattle.show.proofs.put_entry.Statement.{statement}
 use Rattle.show.proofs.put_entry.Tie as tie
 
@@ -65,14 +65,14 @@ same-length-2 c = search needs
 
 returns-2 : tie.Need-returns-2
 unfolding entryBytes
-returns-2 c = rw (c .before .before .before .before .before .before .before .before .e2 .given .1, alternated (c .before .before .before .before .before .before .before .before .e2 .given .0 .1 .1 .0) (c .before .before .before .alternating .result) (search needs) (c .before .before .before .alternating .ensures)) (c .before .before .put-four .ensures)
+returns-2 c = rw (c .before .before .before .before .before .before .before .before .e2 .given .1, alternating-of-bits (c .before .before .before .before .before .before .before .before .e2 .given .0 .1 .1 .0) (c .before .before .before .alternating .result) (search needs) (c .before .before .before .alternating .ensures)) (c .before .before .put-four .ensures)
 
 same-length-3 : tie.Need-same-length-3
 same-length-3 c = search needs
 
 returns-3 : tie.Need-returns-3
 unfolding entryBytes
-returns-3 c = rw (c .before .before .before .before .before .before .before .e3 .given .1, alternated (c .before .before .before .before .before .before .before .e3 .given .0 .1 .0) (c .before .before .before .alternating2 .result) (search needs) (c .before .before .before .alternating2 .ensures)) (c .before .before .put-three2 .ensures)
+returns-3 c = rw (c .before .before .before .before .before .before .before .e3 .given .1, alternating-of-bits (c .before .before .before .before .before .before .before .e3 .given .0 .1 .0) (c .before .before .before .alternating2 .result) (search needs) (c .before .before .before .alternating2 .ensures)) (c .before .before .put-three2 .ensures)
 
 same-length-4 : tie.Need-same-length-4
 same-length-4 c = search needs

@@ -3,7 +3,7 @@ use mathlib.Core.Path.{ap}
 use borrow.Author.Needs.{needs}
 use Rattle.text.specs.Text.{valueText}
 use Rattle.text.specs.Printing.{join, same-text}
-use Rattle.show.proofs.Laws.{handed}
+use Rattle.number.specs.ValueLaws.{value-of-bits}
 use Rattle.show.proofs.put_pair.Statement.{statement}
 use Rattle.show.proofs.put_pair.Tie as tie
 
@@ -35,7 +35,7 @@ same-length : tie.Need-same-length
 same-length c = search needs
 
 returns : tie.Need-returns
-returns c = join (c .before .before .before .before .before .before .before .before .before .before .before .before .before .before .before .before .before .before .put-decimal .ensures) (join (c .before .before .before .before .before .before .before .before .before .before .before .before .put-field .ensures) (join (c .before .before .before .before .before .before .before .put-words .ensures) (same-text (ap valueText (handed (c .before .before .before .before .before .before .before .before .before .before .before .before .before .before .before .before .before .before .before .before .before .before .before .args .pair .value) (search needs))) (c .before .before .put-value .ensures))))
+returns c = join (c .before .before .before .before .before .before .before .before .before .before .before .before .before .before .before .before .before .before .put-decimal .ensures) (join (c .before .before .before .before .before .before .before .before .before .before .before .before .put-field .ensures) (join (c .before .before .before .before .before .before .before .put-words .ensures) (same-text (ap valueText (value-of-bits (c .before .before .before .before .before .before .before .before .before .before .before .before .before .before .before .before .before .before .before .before .before .before .before .args .pair .value) (search needs))) (c .before .before .put-value .ensures))))
 
 pub put-pair-spec : {M : Type 1} → statement M
 put-pair-spec =

@@ -1,7 +1,7 @@
 -- `words::entry_of` meets its contract.
 use borrow.Author.Tests.{eq-eqb, ne-eqb}
-use Rattle.record.specs.Entry.{entryOf}
-use Rattle.words.proofs.Reading.{signed-held}
+use Rattle.rows.specs.Row.{entryOf}
+use Rattle.number.specs.ValueLaws.{signed-of-bits}
 use borrow.Author.Needs.{needs}
 use Rattle.words.proofs.entry_of.Statement.{statement}
 use Rattle.words.proofs.entry_of.Tie as tie
@@ -15,11 +15,11 @@ signed-requires c κs = search needs
 
 returns-2 : tie.Need-returns-2
 unfolding entryOf
-returns-2 c = rw (signed-held (c .before .signed .result) _ (search needs) (c .before .signed .ensures), ne-eqb _ _ (c .before .before .if1 .left), eq-eqb _ _ (c .if2 .taken))
+returns-2 c = rw (signed-of-bits (c .before .signed .result) _ (search needs) (c .before .signed .ensures), ne-eqb _ _ (c .before .before .if1 .left), eq-eqb _ _ (c .if2 .taken))
 
 returns-3 : tie.Need-returns-3
 unfolding entryOf
-returns-3 c = rw (signed-held (c .before .before .signed .result) _ (search needs) (c .before .before .signed .ensures), ne-eqb _ _ (c .before .before .before .if1 .left), ne-eqb _ _ (c .before .if2 .left), eq-eqb _ _ (c .if3 .taken))
+returns-3 c = rw (signed-of-bits (c .before .before .signed .result) _ (search needs) (c .before .before .signed .ensures), ne-eqb _ _ (c .before .before .before .if1 .left), ne-eqb _ _ (c .before .if2 .left), eq-eqb _ _ (c .if3 .taken))
 
 returns-4 : tie.Need-returns-4
 unfolding entryOf

@@ -1,6 +1,6 @@
 -- `words::goal_of` meets its contract.
 use borrow.Author.Tests.{eq-eqb, ne-eqb}
-use Rattle.words.proofs.Reading.{signed-held}
+use Rattle.number.specs.ValueLaws.{signed-of-bits}
 use Rattle.words.specs.Reading.{goalOf}
 use borrow.Author.Needs.{needs}
 use Rattle.words.proofs.goal_of.Statement.{statement}
@@ -15,7 +15,7 @@ signed-requires c κs = search needs
 
 returns-2 : tie.Need-returns-2
 unfolding goalOf
-returns-2 c = rw (signed-held (c .signed .result) _ (search needs) (c .signed .ensures), ne-eqb _ _ (c .before .if1 .left))
+returns-2 c = rw (signed-of-bits (c .signed .result) _ (search needs) (c .signed .ensures), ne-eqb _ _ (c .before .if1 .left))
 
 pub goal-of-spec : {M : Type 1} → statement M
 goal-of-spec = tie.close (tie.spec returns signed-requires returns-2)

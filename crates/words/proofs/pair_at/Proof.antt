@@ -1,5 +1,5 @@
 -- `words::pair_at` meets its contract.
-use Rattle.words.proofs.Reading.{signed-held}
+use Rattle.number.specs.ValueLaws.{signed-of-bits}
 use Rattle.words.specs.Reading.{pairIn}
 use borrow.Author.Needs.{needs}
 use Rattle.words.proofs.pair_at.Statement.{statement}
@@ -37,7 +37,7 @@ shared-slice-read-t9 c = search needs
 
 returns : tie.Need-returns
 unfolding pairIn
-returns c = rw (signed-held (c .before .signed .result) _ (c .before .before .shared-slice-known3 .given _ .fits) (c .before .signed .ensures), c .before .before .before .byte .ensures)
+returns c = rw (signed-of-bits (c .before .signed .result) _ (c .before .before .shared-slice-known3 .given _ .fits) (c .before .signed .ensures), c .before .before .before .byte .ensures)
 
 pub pair-at-spec : {M : Type 1} → statement M
 pair-at-spec =

@@ -1,6 +1,6 @@
 -- `words::put_entry` meets its contract.
-use Rattle.record.specs.Entry.{rowOf}
-use Rattle.words.proofs.Writing.{alternated}
+use Rattle.rows.specs.Row.{rowOf}
+use Rattle.number.specs.ValueLaws.{alternating-of-bits}
 use borrow.Author.Needs.{needs}
 use Rattle.words.proofs.put_entry.Statement.{statement}
 use Rattle.words.proofs.put_entry.Tie as tie
@@ -77,14 +77,14 @@ same-length-2 c = search needs
 
 returns-2 : tie.Need-returns-2
 unfolding rowOf
-returns-2 c = simp (c .before .before .before .before .before .before .before .before .before .entry2 .given .1, alternated (c .before .before .before .before .before .before .before .before .before .entry2 .given .0 .1 .1 .0) (c .before .before .before .before .before .alternating .result) (search needs) (c .before .before .before .before .before .alternating .ensures)) (c .before .before .put2 .ensures)
+returns-2 c = simp (c .before .before .before .before .before .before .before .before .before .entry2 .given .1, alternating-of-bits (c .before .before .before .before .before .before .before .before .before .entry2 .given .0 .1 .1 .0) (c .before .before .before .before .before .alternating .result) (search needs) (c .before .before .before .before .before .alternating .ensures)) (c .before .before .put2 .ensures)
 
 same-length-3 : tie.Need-same-length-3
 same-length-3 c = search needs
 
 returns-3 : tie.Need-returns-3
 unfolding rowOf
-returns-3 c = simp (c .before .before .before .before .before .before .before .before .entry3 .given .1, alternated (c .before .before .before .before .before .before .before .before .entry3 .given .0 .1 .0) (c .before .before .before .before .before .alternating2 .result) (search needs) (c .before .before .before .before .before .alternating2 .ensures)) (c .before .before .put3 .ensures)
+returns-3 c = simp (c .before .before .before .before .before .before .before .before .entry3 .given .1, alternating-of-bits (c .before .before .before .before .before .before .before .before .entry3 .given .0 .1 .0) (c .before .before .before .before .before .alternating2 .result) (search needs) (c .before .before .before .before .before .alternating2 .ensures)) (c .before .before .put3 .ensures)
 
 same-length-4 : tie.Need-same-length-4
 same-length-4 c = search needs

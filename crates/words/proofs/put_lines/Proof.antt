@@ -2,7 +2,7 @@
 use Prim.Native.Nat.{_-_}
 use Rattle.words.specs.Layout.{entryPlace}
 use Rattle.words.proofs.Writing.{Storing, stores, stores-long, stores-on, stores-end}
-use Rattle.record.specs.Entry.{rowOf}
+use Rattle.rows.specs.Row.{rowOf}
 use Rattle.words.specs.Writing.{entryIn}
 use borrow.Author.Needs.{needs}
 use native.Mathlib.Omega.{arith}

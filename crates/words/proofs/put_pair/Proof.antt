@@ -1,6 +1,6 @@
 -- `words::put_pair` meets its contract.
 use Rattle.words.specs.Writing.{pairWords}
-use Rattle.words.proofs.Writing.{alternated}
+use Rattle.number.specs.ValueLaws.{alternating-of-bits}
 use borrow.Author.Needs.{needs}
 use Rattle.words.proofs.put_pair.Statement.{statement}
 use Rattle.words.proofs.put_pair.Tie as tie
@@ -22,7 +22,7 @@ same-length c = search needs
 
 returns : tie.Need-returns
 unfolding pairWords
-returns c = simp (alternated (c .before .before .before .before .before .before .before .before .before .before .args .pair .value) (c .before .before .before .before .before .alternating .result) (search needs) (c .before .before .before .before .before .alternating .ensures)) (c .before .before .put .ensures)
+returns c = simp (alternating-of-bits (c .before .before .before .before .before .before .before .before .before .before .args .pair .value) (c .before .before .before .before .before .alternating .result) (search needs) (c .before .before .before .before .before .alternating .ensures)) (c .before .before .put .ensures)
 
 pub put-pair-spec : {M : Type 1} → statement M
 put-pair-spec =
