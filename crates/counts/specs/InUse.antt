@@ -10,12 +10,12 @@ use Rattle.quorum.specs.Sets.{membersOf}
 use Rattle.quorum.specs.Laws.{within-below}
 use Rattle.quorum.specs.Members.{members-count}
 use Rattle.slots.specs.Free.{digit, countFrom}
-use Rattle.plan.specs.declared.Message.{Message}
+use Rattle.method.specs.declared.Message.{Message}
 use Rattle.rack.specs.declared.Slot.{Slot}
 use Rattle.rack.specs.declared.Rack.{Rack}
-use Rattle.plan.specs.declared.Event.{Event}
-use Rattle.plan.specs.declared.Plan.{Plan}
-use Rattle.plan.specs.declared.Outcome.the-variants.{Go}
+use Rattle.method.specs.declared.Event.{Event}
+use Rattle.method.specs.declared.Plan.{Plan}
+use Rattle.method.specs.declared.Outcome.the-variants.{Go}
 use Rattle.rack.specs.Places.{empty, freeAt, roomOf}
 use Rattle.rack.specs.Sound.{soundOf}
 use Rattle.rack.specs.Run.{slotOf, freed, decided, addressed, cleared, appliedOf, freshRack, madeOf, runOf}

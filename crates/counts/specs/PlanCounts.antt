@@ -11,31 +11,31 @@ use Rattle.record.specs.declared.Cell.{Cell}
 use Rattle.record.specs.declared.Entry.{Entry}
 use Rattle.quorum.specs.Sets.{setBits, hasReplica, withReplica, asksEnough, keepsEnough, everyReplica, others}
 use Rattle.quorum.specs.Laws.{none-count, none-has, with-fresh, every-count}
-use Rattle.plan.specs.declared.Pair.{Pair}
-use Rattle.plan.specs.declared.Body.{Body}
-use Rattle.plan.specs.declared.Body.the-variants.{Ask, Tell, Keep, Kept}
-use Rattle.plan.specs.declared.Message.{Message}
-use Rattle.plan.specs.declared.Held.{Held}
-use Rattle.plan.specs.declared.Held.the-variants.{Empty, Full}
-use Rattle.plan.specs.declared.Goal.{Goal}
-use Rattle.plan.specs.declared.Goal.the-variants.{Read, Write}
-use Rattle.plan.specs.declared.Work.{Work}
-use Rattle.plan.specs.declared.Work.the-variants.{Idle, Asking, Keeping}
-use Rattle.plan.specs.declared.Party.{Party}
+use Rattle.stamps.specs.declared.Pair.{Pair}
+use Rattle.method.specs.declared.Body.{Body}
+use Rattle.method.specs.declared.Body.the-variants.{Ask, Tell, Keep, Kept}
+use Rattle.method.specs.declared.Message.{Message}
+use Rattle.method.specs.declared.Held.{Held}
+use Rattle.method.specs.declared.Held.the-variants.{Empty, Full}
+use Rattle.method.specs.declared.Goal.{Goal}
+use Rattle.method.specs.declared.Goal.the-variants.{Read, Write}
+use Rattle.method.specs.declared.Work.{Work}
+use Rattle.method.specs.declared.Work.the-variants.{Idle, Asking, Keeping}
+use Rattle.method.specs.declared.Party.{Party}
 use Rattle.rack.specs.declared.Sizes.{Sizes}
 use Rattle.rack.specs.declared.Rack.{Rack}
-use Rattle.plan.specs.declared.Event.{Event}
-use Rattle.plan.specs.declared.Event.the-variants.{StartRead, StartWrite, Deliver, Lose, Copy, Resend, Stop, Off, On, Unknown}
-use Rattle.plan.specs.declared.Note.{Note}
-use Rattle.plan.specs.declared.Note.the-variants.{Nothing, Asked, Ended}
-use Rattle.plan.specs.declared.Plan.{Plan}
-use Rattle.plan.specs.declared.Outcome.{Outcome}
-use Rattle.plan.specs.declared.Outcome.the-variants.{No, Go}
-use Rattle.plan.specs.Plan.{Sight, messageOf, partyAt, planned, usedUp, answered, started, startIn, startOf, askOf, keepOf, current, keepsOf, phaseEnds, tellCounts, tellIn, tellOf, lastEntry, keptCounts, keptIn, keptOf, deliverIn, deliverOf, copyOf, resendIn, resendOf, stopOf, powered, offOf, onOf, ofSlot, planOf}
-use Rattle.plan.specs.Sight.{sightOf}
+use Rattle.method.specs.declared.Event.{Event}
+use Rattle.method.specs.declared.Event.the-variants.{StartRead, StartWrite, Deliver, Lose, Copy, Resend, Stop, Off, On, Unknown}
+use Rattle.method.specs.declared.Note.{Note}
+use Rattle.method.specs.declared.Note.the-variants.{Nothing, Asked, Ended}
+use Rattle.method.specs.declared.Plan.{Plan}
+use Rattle.method.specs.declared.Outcome.{Outcome}
+use Rattle.method.specs.declared.Outcome.the-variants.{No, Go}
+use Rattle.method.specs.Plan.{Sight, messageOf, partyAt, planned, usedUp, answered, started, startIn, startOf, askOf, keepOf, current, keepsOf, phaseEnds, tellCounts, tellIn, tellOf, lastEntry, keptCounts, keptIn, keptOf, deliverIn, deliverOf, copyOf, resendIn, resendOf, stopOf, powered, offOf, onOf, ofSlot, planOf}
+use Rattle.method.specs.Sight.{sightOf}
 use Rattle.rack.specs.Places.{roomOf}
 use Rattle.rack.specs.Sound.{heldFits, owes, owed, soundOf}
-use Rattle.plan.specs.About.{clientIn, clientOf}
+use Rattle.method.specs.About.{clientIn, clientOf}
 use Rattle.rack.specs.Run.{freed, checked, decided}
 use Rattle.rack.specs.SoundLaws.{Sound, sound-of, named}
 use Rattle.rack.specs.Decided.{lookedHeld, lookedClient, lookedParty, lookedPair, checked-go, Decided, decided-fits}

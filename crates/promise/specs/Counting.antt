@@ -8,11 +8,11 @@ use Rattle.record.specs.declared.Entry.{Entry}
 use Rattle.record.specs.Record.{entryLimit}
 use Rattle.quorum.specs.Sets.{keepsEnough}
 use Rattle.law.specs.Operation.{note, operations}
-use Rattle.plan.specs.declared.Body.the-variants.{Kept}
-use Rattle.plan.specs.declared.Work.{Work}
+use Rattle.method.specs.declared.Body.the-variants.{Kept}
+use Rattle.method.specs.declared.Work.{Work}
 use Rattle.rack.specs.declared.Rack.{Rack}
-use Rattle.plan.specs.declared.Event.{Event}
-use Rattle.plan.specs.declared.Plan.{Plan}
+use Rattle.method.specs.declared.Event.{Event}
+use Rattle.method.specs.declared.Plan.{Plan}
 use Rattle.rack.specs.Places.{recordOf}
 use Rattle.rack.specs.Sound.{workFits}
 use Rattle.rack.specs.Run.{appliedOf}
@@ -22,7 +22,7 @@ use Rattle.protocol.specs.View.{Setting, Op, View}
 use Rattle.protocol.specs.Message.{Kept as Has}
 use Rattle.protocol.specs.Move.{count, finish, counted, ended, changed}
 use Rattle.promise.specs.Setting.{settingOf, keep-enough}
-use Rattle.plan.specs.Method.{endEntry, Counted, countedSet, Counts, Ends}
+use Rattle.method.specs.Method.{endEntry, Counted, countedSet, Counts, Ends}
 use Rattle.promise.specs.Tie.{openAt, Past, Stands, At, opOf, Book, Tie}
 use Rattle.promise.specs.Record.{none-added, ended-added, record-length, record-ended, operations-after, book-end}
 use Rattle.promise.specs.Clients.{stands-on, idle-now}

@@ -11,14 +11,14 @@ use borrow.Author.Tests.{lt-ltb, le-ltb, ltb-true, ltb-false, eqb-true, eqb-fals
 use Rattle.quorum.specs.Sets.{hasReplica, withReplica, asksEnough, keepsEnough, within, membersOf}
 use Rattle.quorum.specs.Laws.{within-below, below-within, none-has, with-new, with-below, meet}
 use Rattle.quorum.specs.Members.{members-has}
-use Rattle.plan.specs.declared.Stamp.{Stamp}
-use Rattle.plan.specs.declared.Pair.{Pair}
+use Rattle.stamps.specs.declared.Stamp.{Stamp}
+use Rattle.stamps.specs.declared.Pair.{Pair}
 use Rattle.rack.specs.declared.Sizes.{Sizes}
-use Rattle.plan.specs.Stamp.{stampLess}
+use Rattle.stamps.specs.Stamp.{stampLess}
 use Rattle.rack.specs.Sound.{pairFits}
 use Rattle.rack.specs.SoundLaws.{Sized}
 use Rattle.protocol.specs.View.{Setting}
-use Rattle.plan.specs.Method.{Follows}
+use Rattle.method.specs.Method.{Follows}
 
 -- ---- sets and stamps as numbers
 

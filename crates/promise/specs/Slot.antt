@@ -4,17 +4,17 @@ use mathlib.Core.Path.{_≡_, sym, ap, _∙_, subst}
 use mathlib.Core.Bool.{true}
 use lib.ListN.{getD, set}
 use lib.Seq.{set-getD}
-use Rattle.plan.specs.declared.Body.{Body}
-use Rattle.plan.specs.declared.Message.{Message}
-use Rattle.plan.specs.declared.Held.{Held}
-use Rattle.plan.specs.declared.Held.the-variants.{Full}
+use Rattle.method.specs.declared.Body.{Body}
+use Rattle.method.specs.declared.Message.{Message}
+use Rattle.method.specs.declared.Held.{Held}
+use Rattle.method.specs.declared.Held.the-variants.{Full}
 use Rattle.rack.specs.declared.Sizes.{Sizes}
 use Rattle.rack.specs.declared.Rack.{Rack}
-use Rattle.plan.specs.declared.Event.{Event}
-use Rattle.plan.specs.declared.Plan.{Plan}
-use Rattle.plan.specs.Stamp.{freshPair}
-use Rattle.plan.specs.Plan.{Sight}
-use Rattle.plan.specs.Sight.{sightOf}
+use Rattle.stamps.specs.Stamp.{freshPair}
+use Rattle.method.specs.declared.Event.{Event}
+use Rattle.method.specs.declared.Plan.{Plan}
+use Rattle.method.specs.Plan.{Sight}
+use Rattle.method.specs.Sight.{sightOf}
 use Rattle.rack.specs.Places.{pairPlace}
 use Rattle.rack.specs.Sound.{bodyFits, heldFits}
 use Rattle.rack.specs.Run.{slotOf, placeIn}
@@ -22,7 +22,7 @@ use Rattle.rack.specs.SoundLaws.{Named, named}
 use Rattle.rack.specs.Decided.{lookedHeld, lookedClient, lookedParty, lookedPlace, lookedPair, Looked}
 use Rattle.protocol.specs.View.{Setting, View}
 use Rattle.promise.specs.Setting.{settingOf}
-use Rattle.plan.specs.Method.{Got}
+use Rattle.method.specs.Method.{Got}
 use Rattle.promise.specs.Tie.{pairOf, Means, OnWire, InSlot, opOf, Tie}
 
 -- what the event sees

@@ -7,12 +7,12 @@ use lib.ListN.{getD, set}
 use lib.Seq.{getD-set-same, getD-set-other}
 use Rattle.quorum.specs.Sets.{membersOf}
 use Rattle.law.specs.Order.{In}
-use Rattle.plan.specs.declared.Body.the-variants.{Keep, Kept}
-use Rattle.plan.specs.declared.Message.{Message}
+use Rattle.method.specs.declared.Body.the-variants.{Keep, Kept}
+use Rattle.method.specs.declared.Message.{Message}
 use Rattle.rack.specs.declared.Rack.{Rack}
-use Rattle.plan.specs.declared.Event.{Event}
-use Rattle.plan.specs.declared.Plan.{Plan}
-use Rattle.plan.specs.Stamp.{freshPair}
+use Rattle.stamps.specs.Stamp.{freshPair}
+use Rattle.method.specs.declared.Event.{Event}
+use Rattle.method.specs.declared.Plan.{Plan}
 use Rattle.rack.specs.Places.{pairPlace}
 use Rattle.rack.specs.Sound.{bodyFits}
 use Rattle.rack.specs.SoundLaws.{Sized}
@@ -26,7 +26,7 @@ use Rattle.protocol.specs.Steps.{step}
 use Rattle.protocol.specs.Stays.{kept-true}
 use Rattle.protocol.specs.Atomic.{reached-keeps}
 use Rattle.promise.specs.Setting.{fits-ranked, settingOf, only}
-use Rattle.plan.specs.Method.{Takes}
+use Rattle.method.specs.Method.{Takes}
 use Rattle.promise.specs.Tie.{pairOf, opOf, Tie}
 use Rattle.promise.specs.Pairs.{raised-seen}
 use Rattle.promise.specs.Record.{none-added, record-same}

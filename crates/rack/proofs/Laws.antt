@@ -13,7 +13,7 @@ use mir.Facts.{toZ-ofZ}
 use borrow.Author.Tests.{lt-ltb, le-ltb, lt-leb, ltb-true, ltb-false}
 use Rattle.number.specs.Value.{signedOf}
 use Rattle.number.specs.ValueLaws.{signed-fits}
-use Rattle.plan.specs.declared.Party.{Party}
+use Rattle.method.specs.declared.Party.{Party}
 use Rattle.rack.specs.declared.Rack.{Rack}
 use Rattle.rack.specs.Places.{idle}
 use Rattle.rack.specs.Sound.{allBelow, sizesFit, owedBy, owed, recordFits}

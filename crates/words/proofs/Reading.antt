@@ -15,7 +15,7 @@ use borrow.Author.Tests.{lt-ltb, le-ltb, ltb-true}
 use Rattle.number.specs.Value.{signedOf}
 use Rattle.number.specs.ValueLaws.{signed-fits}
 use Rattle.rack.specs.Sound.{allBelow}
-use Rattle.plan.specs.Tests.{and-left, and-right}
+use Rattle.method.specs.Tests.{and-left, and-right}
 use Rattle.words.specs.Layout.{entryPlace, word, firsts}
 use Rattle.words.specs.Firsts.{firsts-long}
 use Rattle.words.specs.Reading.{partyKnown, messageKnown, lineKnown, countOf, countIn}
