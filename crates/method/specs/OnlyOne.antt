@@ -8,7 +8,7 @@ use Rattle.record.specs.declared.Entry.the-variants.{ReadAsked}
 use Rattle.quorum.specs.Sets.{setBits, hasReplica, withReplica, majority, asksEnough, everyReplica}
 use Rattle.stamps.specs.Stamp.{freshPair}
 use Rattle.stamps.specs.OnlyOne.{pairOf}
-use Rattle.method.specs.declared.Body.the-variants.{Tell}
+use Rattle.method.specs.declared.Body.the-variants.{Tell, Keep}
 use Rattle.method.specs.declared.Held.{Held}
 use Rattle.method.specs.declared.Held.the-variants.{Empty, Full}
 use Rattle.method.specs.declared.Goal.the-variants.{Read}
@@ -18,7 +18,7 @@ use Rattle.method.specs.declared.Event.{Event}
 use Rattle.method.specs.declared.Event.the-variants.{StartRead, Deliver, Resend}
 use Rattle.method.specs.declared.Note.the-variants.{Nothing, Asked, Ended}
 use Rattle.method.specs.declared.Outcome.{Outcome}
-use Rattle.method.specs.Plan.{Sight, messageOf, partyAt, started, startIn, startOf, current, keepsOf, phaseEnds, tellCounts, tellIn, tellOf, deliverIn, deliverOf, resendIn, resendOf, ofSlot, planOf}
+use Rattle.method.specs.Plan.{Sight, messageOf, partyAt, started, startIn, startOf, keepOf, current, keepsOf, phaseEnds, tellCounts, tellIn, tellOf, deliverIn, deliverOf, resendIn, resendOf, ofSlot, planOf}
 use Rattle.method.specs.Sight.{sightOf}
 use Rattle.method.specs.Answers.{refusalIn, sentTo, noteIn}
 
@@ -74,3 +74,11 @@ not-read-unkept r entry p q =
 pub not-resend-idle : (r : Outcome) → r ≡ planOf (three Idle) Empty (Resend (record { 0 = 0 })) → refusalIn r ≡ 0 → ⊥
 unfolding planOf resendOf resendIn refusalIn
 not-resend-idle r p q = let e : refusalIn r ≡ 7 = ap refusalIn p in omega arith
+
+-- a replica that is given the pair it has takes nothing, and answers all the same
+abbrev giving : Held
+giving = Full (messageOf (record { 0 = 0 }) (record { 0 = 0 }) (record { 0 = 0 }) 1 (Keep freshPair))
+
+pub not-unanswered : (r : Outcome) → r ≡ planOf (three Idle) giving (Deliver 0) → sentTo r ≡ 0 → ⊥
+unfolding planOf ofSlot deliverOf deliverIn keepOf hasReplica withReplica setBits sentTo
+not-unanswered r p q = let e : sentTo r ≡ 1 = ap sentTo p in omega arith

@@ -1,4 +1,4 @@
-// The kinds of thing that events and plans speak of; what each event does is defined over them in specs/, and no code stands here.
+// The kinds of thing that events and plans speak of. What each event does is defined over them in specs/, with the method as its law; no function is needed.
 use record::Cell;
 use record::Client;
 use record::Entry;

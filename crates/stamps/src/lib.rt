@@ -1,4 +1,4 @@
-// Stamps and pairs.
+// Stamps, and the pairs of a stamp and a value: which stamp is the lesser, what a pair becomes when another comes, and the pair that all starts from.
 ghost use mathlib.Core.Path.{_≡_};
 ghost use Rattle.stamps.specs.Stamp.{stampLess, raised, freshPair};
 
