@@ -25,6 +25,7 @@ use Rattle.method.specs.declared.Party.{Party}
 use Rattle.rack.specs.declared.Line.{Line}
 use Rattle.rack.specs.declared.Sizes.{Sizes}
 use Rattle.rack.specs.declared.Rack.{Rack}
+use Rattle.method.specs.declared.Sight.{Sight}
 use Rattle.method.specs.declared.Event.{Event}
 use Rattle.method.specs.declared.Event.the-variants.{Unknown}
 use Rattle.method.specs.declared.Note.{Note}
@@ -34,8 +35,7 @@ use Rattle.method.specs.declared.Outcome.{Outcome}
 use Rattle.method.specs.declared.Outcome.the-variants.{No, Go}
 use Rattle.rack.specs.declared.Made.{Made}
 use Rattle.stamps.specs.Stamp.{freshPair}
-use Rattle.method.specs.Plan.{Sight, messageOf, planOf}
-use Rattle.method.specs.Sight.{sightOf}
+use Rattle.method.specs.Plan.{messageOf, planOf}
 use Rattle.rack.specs.Places.{slotLimit, empty, full, idle, heldIn, freeAt, roomOf, sentOf, recordOf}
 use Rattle.rack.specs.Sound.{sizesFit, owed, soundOf}
 use Rattle.rack.specs.Run.{freshRack, madeOf, byte, eventOf, slotOf, decided, checked, addressed, cleared, recorded, entriesIn, appliedOf, turn, runFrom, runOf}
@@ -156,7 +156,7 @@ small-stays r e p k before s h =
 
 -- what it looks at
 abbrev pub sight : Rack → Event → Sight
-sight r e = sightOf (r .sizes .replicas) (r .power) (lookedParty r e) (lookedPair r e)
+sight r e = record { replicas = r .sizes .replicas; power = r .power; party = lookedParty r e; pair = lookedPair r e }
 
 -- the plan that it went by is the one that is planned for it
 pub decided-plan : (r : Rack) (e : Event) (p : Plan) → soundOf r ≡ true → decided r e ≡ Go p → planOf (sight r e) (lookedHeld r e) e ≡ Go p

@@ -26,6 +26,7 @@ use Rattle.method.specs.declared.Work.the-variants.{Idle, Asking, Keeping}
 use Rattle.method.specs.declared.Party.{Party}
 use Rattle.rack.specs.declared.Sizes.{Sizes}
 use Rattle.stamps.specs.Stamp.{stampLess, raised}
+use Rattle.method.specs.declared.Sight.{Sight}
 use Rattle.method.specs.declared.Event.{Event}
 use Rattle.method.specs.declared.Event.the-variants.{StartRead, StartWrite, Deliver, Lose, Copy, Resend, Stop, Off, On, Unknown}
 use Rattle.method.specs.declared.Note.{Note}
@@ -33,8 +34,7 @@ use Rattle.method.specs.declared.Note.the-variants.{Nothing, Asked, Ended}
 use Rattle.method.specs.declared.Plan.{Plan}
 use Rattle.method.specs.declared.Outcome.{Outcome}
 use Rattle.method.specs.declared.Outcome.the-variants.{No, Go}
-use Rattle.method.specs.Plan.{Sight, usedUp, answered, started, startIn, startOf, askOf, keepOf, current, keepsOf, written, phaseEnds, holds, tellCounts, tellIn, tellOf, lastEntry, keptCounts, keptIn, keptOf, deliverIn, deliverOf, copyOf, resendIn, resendOf, stopOf, powered, offOf, onOf, ofSlot, planOf}
-use Rattle.method.specs.Sight.{sightOf}
+use Rattle.method.specs.Plan.{usedUp, answered, started, startIn, startOf, askOf, keepOf, current, keepsOf, written, phaseEnds, holds, tellCounts, tellIn, tellOf, lastEntry, keptCounts, keptIn, keptOf, deliverIn, deliverOf, copyOf, resendIn, resendOf, stopOf, powered, offOf, onOf, ofSlot, planOf}
 use Rattle.rack.specs.Sound.{heldFits}
 use Rattle.method.specs.About.{clientIn, clientOf}
 use Rattle.rack.specs.Run.{inRack}
@@ -129,7 +129,7 @@ holds-small set held q h hq = go (eqb set 0)
 
 module _ (z : Sizes) (power : ℕ) (party : Party) (pair : Pair) (work : WorkSmall (party .work)) (here : PairSmall pair) where
   abbrev seen : Sight
-  seen = sightOf (z .replicas) power party pair
+  seen = record { replicas = z .replicas; power = power; party = party; pair = pair }
 
   -- what the client has open
   abbrev has : ℕ

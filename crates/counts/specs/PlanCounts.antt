@@ -24,6 +24,7 @@ use Rattle.method.specs.declared.Work.the-variants.{Idle, Asking, Keeping}
 use Rattle.method.specs.declared.Party.{Party}
 use Rattle.rack.specs.declared.Sizes.{Sizes}
 use Rattle.rack.specs.declared.Rack.{Rack}
+use Rattle.method.specs.declared.Sight.{Sight}
 use Rattle.method.specs.declared.Event.{Event}
 use Rattle.method.specs.declared.Event.the-variants.{StartRead, StartWrite, Deliver, Lose, Copy, Resend, Stop, Off, On, Unknown}
 use Rattle.method.specs.declared.Note.{Note}
@@ -31,8 +32,7 @@ use Rattle.method.specs.declared.Note.the-variants.{Nothing, Asked, Ended}
 use Rattle.method.specs.declared.Plan.{Plan}
 use Rattle.method.specs.declared.Outcome.{Outcome}
 use Rattle.method.specs.declared.Outcome.the-variants.{No, Go}
-use Rattle.method.specs.Plan.{Sight, messageOf, partyAt, planned, usedUp, answered, started, startIn, startOf, askOf, keepOf, current, keepsOf, phaseEnds, tellCounts, tellIn, tellOf, lastEntry, keptCounts, keptIn, keptOf, deliverIn, deliverOf, copyOf, resendIn, resendOf, stopOf, powered, offOf, onOf, ofSlot, planOf}
-use Rattle.method.specs.Sight.{sightOf}
+use Rattle.method.specs.Plan.{messageOf, partyAt, planned, usedUp, answered, started, startIn, startOf, askOf, keepOf, current, keepsOf, phaseEnds, tellCounts, tellIn, tellOf, lastEntry, keptCounts, keptIn, keptOf, deliverIn, deliverOf, copyOf, resendIn, resendOf, stopOf, powered, offOf, onOf, ofSlot, planOf}
 use Rattle.rack.specs.Places.{roomOf}
 use Rattle.rack.specs.Sound.{heldFits, owes, owed, soundOf}
 use Rattle.method.specs.About.{clientIn, clientOf}
@@ -83,7 +83,7 @@ OutcomeCounts n client party e (Go p) = PlanCounts n client party e p
 
 module _ (n : ℕ) (few : n ≤ setBits) (power : ℕ) (party : Party) (pair : Pair) where
   abbrev seen : Sight
-  seen = sightOf n power party pair
+  seen = record { replicas = n; power = power; party = party; pair = pair }
 
   -- a branch: both ways
   either : (client : ℕ) (e : Event) (t : Bool) (a b : Outcome) → OutcomeCounts n client party e a → OutcomeCounts n client party e b
@@ -307,7 +307,7 @@ decided-counts r e p h g =
     let s : Sound r = sound-of r h in
     let d : Decided r e p = decided-fits r e p h g in
     let few : r .sizes .replicas ≤ 16 = omega (arith, s .sizes .replicas) in
-    let o = planOf (sightOf (r .sizes .replicas) (r .power) (lookedParty r e) (lookedPair r e)) (lookedHeld r e) e in
+    let o = planOf (record { replicas = r .sizes .replicas; power = r .power; party = lookedParty r e; pair = lookedPair r e }) (lookedHeld r e) e in
     let c : checked o (r .count + owed r) (roomOf (r .wire)) ≡ Go p =
     ap (λ (t : Bool). cond t (checked o (r .count + owed r) (roomOf (r .wire))) (No 3)) (sym (d .inside)) ∙ g in
     subst (OutcomeCounts (r .sizes .replicas) (lookedClient r e) (lookedParty r e) e)

@@ -18,12 +18,13 @@ use Rattle.method.specs.declared.Goal.{Goal}
 use Rattle.method.specs.declared.Goal.the-variants.{Read, Write}
 use Rattle.method.specs.declared.Work.{Work}
 use Rattle.method.specs.declared.Work.the-variants.{Idle, Asking, Keeping}
+use Rattle.method.specs.declared.Sight.{Sight}
 use Rattle.method.specs.declared.Event.{Event}
 use Rattle.method.specs.declared.Event.the-variants.{StartRead, StartWrite, Deliver, Lose, Copy, Resend, Stop, Off, On, Unknown}
 use Rattle.method.specs.declared.Plan.{Plan}
 use Rattle.method.specs.declared.Outcome.{Outcome}
 use Rattle.method.specs.declared.Outcome.the-variants.{No, Go}
-use Rattle.method.specs.Plan.{Sight, usedUp, started, startIn, startOf, askOf, keepOf, current, keepsOf, written, phaseEnds, holds, tellCounts, tellIn, tellOf, lastEntry, keptCounts, keptIn, keptOf, deliverIn, deliverOf, copyOf, resendIn, resendOf, stopOf, powered, offOf, onOf, ofSlot, planOf}
+use Rattle.method.specs.Plan.{usedUp, started, startIn, startOf, askOf, keepOf, current, keepsOf, written, phaseEnds, holds, tellCounts, tellIn, tellOf, lastEntry, keptCounts, keptIn, keptOf, deliverIn, deliverOf, copyOf, resendIn, resendOf, stopOf, powered, offOf, onOf, ofSlot, planOf}
 use Rattle.method.specs.About.{clientIn, clientOf}
 use Rattle.method.specs.Tests.{and-right}
 use Rattle.method.specs.Method.{Raised, Holds, Chosen, firstEntry, endEntry, Heard, Counted, Does}

@@ -14,12 +14,12 @@ use Rattle.method.specs.declared.Held.the-variants.{Empty, Full}
 use Rattle.method.specs.declared.Goal.the-variants.{Read}
 use Rattle.method.specs.declared.Work.{Work}
 use Rattle.method.specs.declared.Work.the-variants.{Idle, Asking}
+use Rattle.method.specs.declared.Sight.{Sight}
 use Rattle.method.specs.declared.Event.{Event}
 use Rattle.method.specs.declared.Event.the-variants.{StartRead, Deliver, Resend}
 use Rattle.method.specs.declared.Note.the-variants.{Nothing, Asked, Ended}
 use Rattle.method.specs.declared.Outcome.{Outcome}
-use Rattle.method.specs.Plan.{Sight, messageOf, partyAt, started, startIn, startOf, keepOf, current, keepsOf, phaseEnds, tellCounts, tellIn, tellOf, deliverIn, deliverOf, resendIn, resendOf, ofSlot, planOf}
-use Rattle.method.specs.Sight.{sightOf}
+use Rattle.method.specs.Plan.{messageOf, partyAt, started, startIn, startOf, keepOf, current, keepsOf, phaseEnds, tellCounts, tellIn, tellOf, deliverIn, deliverOf, resendIn, resendOf, ofSlot, planOf}
 use Rattle.method.specs.Answers.{refusalIn, sentTo, noteIn}
 
 -- two outcomes that refuse alike, and are one outcome
@@ -35,7 +35,7 @@ one-plan s held e r r′ p q = one-outcome (planOf s held e) r r′ p q
 
 -- three replicas, all on, and a client at what it is at
 abbrev three : Work → Sight
-three work = sightOf 3 0b111 (partyAt 1 work) freshPair
+three work = record { replicas = 3; power = 0b111; party = partyAt 1 work; pair = freshPair }
 
 -- it has asked to read cell 0 and replica 0 has told; now replica 1 tells
 abbrev asking : Work

@@ -22,19 +22,13 @@ use Rattle.method.specs.declared.Goal.the-variants.{Read, Write}
 use Rattle.method.specs.declared.Work.{Work}
 use Rattle.method.specs.declared.Work.the-variants.{Idle, Asking, Keeping}
 use Rattle.method.specs.declared.Party.{Party}
+use Rattle.method.specs.declared.Sight.{Sight}
 use Rattle.method.specs.declared.Event.{Event}
 use Rattle.method.specs.declared.Event.the-variants.{StartRead, StartWrite, Deliver, Lose, Copy, Resend, Stop, Off, On, Unknown}
 use Rattle.method.specs.declared.Note.{Note}
 use Rattle.method.specs.declared.Note.the-variants.{Nothing, Asked, Ended}
 use Rattle.method.specs.declared.Outcome.{Outcome}
 use Rattle.method.specs.declared.Outcome.the-variants.{No, Go}
-
--- What an event looks at: how many replicas there are, the power, and the client and the pair that it is about.
-pub record Sight : Type 0 where
-  pub replicas : ℕ
-  pub power : ℕ
-  pub party : Party
-  pub pair : Pair
 
 -- ---- plans
 

@@ -58,6 +58,14 @@ pub struct Party {
     pub work: Work,
 }
 
+// What an event looks at: how many replicas there are, the power, and the client and the pair that it is about.
+pub struct Sight {
+    pub replicas: u8,
+    pub power: u16,
+    pub party: Party,
+    pub pair: Pair,
+}
+
 // An event. Unknown is what names no kind of event, or a number that no rack has.
 pub enum Event {
     StartRead(Client, Cell),

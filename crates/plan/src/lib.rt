@@ -5,7 +5,6 @@ ghost use Prim.Native.Nat.{_<_};
 ghost use Rattle.quorum.specs.Sets.{others};
 ghost use Rattle.method.specs.declared.Note.the-variants.{Nothing, Ended};
 ghost use Rattle.method.specs.declared.Work.the-variants.{Idle, Asking};
-ghost use Rattle.method.specs.Sight.{sightOf};
 ghost use Rattle.method.specs.Plan.{messageOf, partyAt, planned, usedUp, answered, started, startOf, askOf, keepOf, current, keepsOf, phaseEnds, holds, tellCounts, tellIn, tellOf, lastEntry, keptCounts, keptIn, keptOf, deliverOf, copyOf, resendOf, noMessage, stopOf, powered, offOf, onOf, ofSlot, planOf};
 use method::Body;
 use method::Event;
@@ -16,6 +15,7 @@ use method::Note;
 use method::Outcome;
 use method::Party;
 use method::Plan;
+use method::Sight;
 use method::Work;
 use record::Cell;
 use record::Client;
@@ -51,21 +51,20 @@ fn at_work(op: u16, work: Work) -> Party
 
 // All stays as it was, but for a client, whether the slot becomes empty, an entry, and what is sent.
 fn planned(
-    replicas: u8,
-    power: u16,
-    pair: Pair,
+    sight: Sight,
     party: Party,
     clear: bool,
     note: Note,
     message: Message,
     to: u16,
 ) -> Outcome
-    ensures { λ r. ⌜ r ≡ planned (sightOf replicas power party pair) party clear note message to ⌝ }
+    ensures { λ r. ⌜ r ≡ planned sight party clear note message to ⌝ }
 {
+    let pair = sight.pair;
     let plan = Plan {
         party: party,
         pair: pair,
-        power: power,
+        power: sight.power,
         clear: clear,
         note: note,
         message: message,
@@ -75,53 +74,37 @@ fn planned(
 }
 
 // The message is used up and nothing else happens.
-fn used_up(replicas: u8, power: u16, party: Party, pair: Pair, m: Message) -> Outcome
-    ensures { λ r. ⌜ r ≡ usedUp (sightOf replicas power party pair) m ⌝ }
+fn used_up(sight: Sight, m: Message) -> Outcome
+    ensures { λ r. ⌜ r ≡ usedUp sight m ⌝ }
 {
-    planned(replicas, power, pair, party, true, Note::Nothing, m, 0)
+    let party = sight.party;
+    planned(sight, party, true, Note::Nothing, m, 0)
 }
 
 // The replica's pair after the event, and its answer.
-fn answered(
-    replicas: u8,
-    power: u16,
-    party: Party,
-    pair: Pair,
-    after: Pair,
-    m: Message,
-    body: Body,
-) -> Outcome
-    ensures { λ r. ⌜ r ≡ answered (sightOf replicas power party pair) after m body ⌝ }
+fn answered(sight: Sight, after: Pair, m: Message, body: Body) -> Outcome
+    ensures { λ r. ⌜ r ≡ answered sight after m body ⌝ }
 {
     let client = m.client;
     let replica = m.replica;
     let cell = m.cell;
-    planned(
-        replicas,
-        power,
-        after,
-        party,
-        true,
-        Note::Nothing,
-        message_of(client, replica, cell, m.op, body),
-        quorum::with(0, replica),
-    )
+    let party = sight.party;
+    let plan = Plan {
+        party: party,
+        pair: after,
+        power: sight.power,
+        clear: true,
+        note: Note::Nothing,
+        message: message_of(client, replica, cell, m.op, body),
+        to: quorum::with(0, replica),
+    };
+    Outcome::Go(plan)
 }
 
 // The operation number rises by one, the record gets an entry, an ask goes to every replica.
-fn started(
-    replicas: u8,
-    power: u16,
-    party: Party,
-    pair: Pair,
-    op: u16,
-    client: Client,
-    cell: Cell,
-    goal: Goal,
-    entry: Entry,
-) -> Outcome
+fn started(sight: Sight, op: u16, client: Client, cell: Cell, goal: Goal, entry: Entry) -> Outcome
     requires { ⌜ op < 65535 ⌝ }
-    ensures { λ r. ⌜ r ≡ started (sightOf replicas power party pair) op client cell goal entry ⌝ }
+    ensures { λ r. ⌜ r ≡ started sight op client cell goal entry ⌝ }
 {
     let held = fresh_pair();
     let work = Work::Asking {
@@ -131,30 +114,20 @@ fn started(
         held: held,
     };
     planned(
-        replicas,
-        power,
-        pair,
+        sight,
         at_work(op + 1, work),
         false,
         Note::Asked(entry),
         message_of(client, Replica(0), cell, op + 1, Body::Ask),
-        quorum::every(replicas),
+        quorum::every(sight.replicas),
     )
 }
 
 // Start read, start write.
-fn start(
-    replicas: u8,
-    power: u16,
-    party: Party,
-    pair: Pair,
-    client: Client,
-    cell: Cell,
-    goal: Goal,
-    entry: Entry,
-) -> Outcome
-    ensures { λ r. ⌜ r ≡ startOf (sightOf replicas power party pair) client cell goal entry ⌝ }
+fn start(sight: Sight, client: Client, cell: Cell, goal: Goal, entry: Entry) -> Outcome
+    ensures { λ r. ⌜ r ≡ startOf sight client cell goal entry ⌝ }
 {
+    let party = sight.party;
     if party.stopped {
         return Outcome::No(5);
     }
@@ -177,29 +150,31 @@ fn start(
             if op == 65535 {
                 return Outcome::No(10);
             }
-            started(replicas, power, party, pair, op, client, cell, goal, entry)
+            started(sight, op, client, cell, goal, entry)
         }
     }
 }
 
 // The replica answers tell with its pair for that cell.
-fn ask(replicas: u8, power: u16, party: Party, pair: Pair, m: Message) -> Outcome
-    ensures { λ r. ⌜ r ≡ askOf (sightOf replicas power party pair) m ⌝ }
+fn ask(sight: Sight, m: Message) -> Outcome
+    ensures { λ r. ⌜ r ≡ askOf sight m ⌝ }
 {
     let replica = m.replica;
-    if quorum::has(power, replica) {
-        return answered(replicas, power, party, pair, pair, m, Body::Tell(pair));
+    let pair = sight.pair;
+    if quorum::has(sight.power, replica) {
+        return answered(sight, pair, m, Body::Tell(pair));
     }
     Outcome::No(8)
 }
 
 // The replica takes stamp and value if the stamp is greater than its own; it answers kept either way.
-fn keep(replicas: u8, power: u16, party: Party, pair: Pair, m: Message, q: Pair) -> Outcome
-    ensures { λ r. ⌜ r ≡ keepOf (sightOf replicas power party pair) m q ⌝ }
+fn keep(sight: Sight, m: Message, q: Pair) -> Outcome
+    ensures { λ r. ⌜ r ≡ keepOf sight m q ⌝ }
 {
     let replica = m.replica;
-    if quorum::has(power, replica) {
-        return answered(replicas, power, party, pair, raise(pair, q), m, Body::Kept);
+    let pair = sight.pair;
+    if quorum::has(sight.power, replica) {
+        return answered(sight, raise(pair, q), m, Body::Kept);
     }
     Outcome::No(8)
 }
@@ -215,20 +190,11 @@ fn current(party: Party, m: Message) -> bool
 }
 
 // The set is emptied and keep goes to every replica, with the pair that is then held.
-fn keeps(
-    replicas: u8,
-    power: u16,
-    party: Party,
-    pair: Pair,
-    m: Message,
-    cell: Cell,
-    goal: Goal,
-    held: Pair,
-) -> Outcome
-    ensures { λ r. ⌜ r ≡ keepsOf (sightOf replicas power party pair) m cell goal held ⌝ }
+fn keeps(sight: Sight, m: Message, cell: Cell, goal: Goal, held: Pair) -> Outcome
+    ensures { λ r. ⌜ r ≡ keepsOf sight m cell goal held ⌝ }
 {
     let client = m.client;
-    let op = party.op;
+    let op = sight.party.op;
     let work = Work::Keeping {
         cell: cell,
         goal: goal,
@@ -236,32 +202,21 @@ fn keeps(
         held: held,
     };
     planned(
-        replicas,
-        power,
-        pair,
+        sight,
         at_work(op, work),
         true,
         Note::Nothing,
         message_of(client, Replica(0), cell, op, Body::Keep(held)),
-        quorum::every(replicas),
+        quorum::every(sight.replicas),
     )
 }
 
 // The ask phase ends: for a read with the held pair, for a write with the next number, the client's own rank and the new value.
-fn phase_ends(
-    replicas: u8,
-    power: u16,
-    party: Party,
-    pair: Pair,
-    m: Message,
-    cell: Cell,
-    goal: Goal,
-    held: Pair,
-) -> Outcome
-    ensures { λ r. ⌜ r ≡ phaseEnds goal (sightOf replicas power party pair) m cell held ⌝ }
+fn phase_ends(sight: Sight, m: Message, cell: Cell, goal: Goal, held: Pair) -> Outcome
+    ensures { λ r. ⌜ r ≡ phaseEnds goal sight m cell held ⌝ }
 {
     match goal {
-        Goal::Read => keeps(replicas, power, party, pair, m, cell, goal, held),
+        Goal::Read => keeps(sight, m, cell, goal, held),
         Goal::Write(v) => {
             let s = held.stamp;
             let number = s.number;
@@ -269,15 +224,16 @@ fn phase_ends(
                 return Outcome::No(12);
             }
             let client = m.client;
+            let next = number + 1;
             let stamp = Stamp {
-                number: number + 1,
+                number: next,
                 rank: client.0,
             };
             let written = Pair {
                 stamp: stamp,
                 value: v,
             };
-            keeps(replicas, power, party, pair, m, cell, goal, written)
+            keeps(sight, m, cell, goal, written)
         }
     }
 }
@@ -293,21 +249,11 @@ fn hold(set: u16, held: Pair, q: Pair) -> Pair
 }
 
 // A tell that counts: at a majority the phase ends in that same delivery.
-fn tell_counts(
-    replicas: u8,
-    power: u16,
-    party: Party,
-    pair: Pair,
-    m: Message,
-    cell: Cell,
-    goal: Goal,
-    set: u16,
-    held: Pair,
-) -> Outcome
-    ensures { λ r. ⌜ r ≡ tellCounts (sightOf replicas power party pair) m cell goal set held ⌝ }
+fn tell_counts(sight: Sight, m: Message, cell: Cell, goal: Goal, set: u16, held: Pair) -> Outcome
+    ensures { λ r. ⌜ r ≡ tellCounts sight m cell goal set held ⌝ }
 {
-    if quorum::asks_enough(replicas, set) {
-        return phase_ends(replicas, power, party, pair, m, cell, goal, held);
+    if quorum::asks_enough(sight.replicas, set) {
+        return phase_ends(sight, m, cell, goal, held);
     }
     let work = Work::Asking {
         cell: cell,
@@ -316,10 +262,8 @@ fn tell_counts(
         held: held,
     };
     planned(
-        replicas,
-        power,
-        pair,
-        at_work(party.op, work),
+        sight,
+        at_work(sight.party.op, work),
         true,
         Note::Nothing,
         m,
@@ -329,10 +273,7 @@ fn tell_counts(
 
 // A tell in the ask phase counts if this replica isn't yet in the set.
 fn tell_asking(
-    replicas: u8,
-    power: u16,
-    party: Party,
-    pair: Pair,
+    sight: Sight,
     m: Message,
     cell: Cell,
     goal: Goal,
@@ -340,17 +281,14 @@ fn tell_asking(
     held: Pair,
     q: Pair,
 ) -> Outcome
-    ensures { λ r. ⌜ r ≡ tellIn (Asking cell goal set held) (sightOf replicas power party pair) m q ⌝ }
+    ensures { λ r. ⌜ r ≡ tellIn (Asking cell goal set held) sight m q ⌝ }
 {
     let teller = m.replica;
     if quorum::has(set, teller) {
-        return used_up(replicas, power, party, pair, m);
+        return used_up(sight, m);
     }
     tell_counts(
-        replicas,
-        power,
-        party,
-        pair,
+        sight,
         m,
         cell,
         goal,
@@ -360,42 +298,35 @@ fn tell_asking(
 }
 
 // A tell counts only in the ask phase.
-fn tell_in(
-    work: Work,
-    replicas: u8,
-    power: u16,
-    party: Party,
-    pair: Pair,
-    m: Message,
-    q: Pair,
-) -> Outcome
-    ensures { λ r. ⌜ r ≡ tellIn work (sightOf replicas power party pair) m q ⌝ }
+fn tell_in(work: Work, sight: Sight, m: Message, q: Pair) -> Outcome
+    ensures { λ r. ⌜ r ≡ tellIn work sight m q ⌝ }
 {
     match work {
-        Work::Idle => used_up(replicas, power, party, pair, m),
+        Work::Idle => used_up(sight, m),
         Work::Keeping {
             cell: _,
             goal: _,
             set: _,
             held: _,
-        } => used_up(replicas, power, party, pair, m),
+        } => used_up(sight, m),
         Work::Asking {
             cell,
             goal,
             set,
             held,
-        } => tell_asking(replicas, power, party, pair, m, cell, goal, set, held, q),
+        } => tell_asking(sight, m, cell, goal, set, held, q),
     }
 }
 
-fn tell(replicas: u8, power: u16, party: Party, pair: Pair, m: Message, q: Pair) -> Outcome
-    ensures { λ r. ⌜ r ≡ tellOf (sightOf replicas power party pair) m q ⌝ }
+fn tell(sight: Sight, m: Message, q: Pair) -> Outcome
+    ensures { λ r. ⌜ r ≡ tellOf sight m q ⌝ }
 {
+    let party = sight.party;
     if current(party, m) {
         let work = party.work;
-        return tell_in(work, replicas, power, party, pair, m, q);
+        return tell_in(work, sight, m, q);
     }
-    used_up(replicas, power, party, pair, m)
+    used_up(sight, m)
 }
 
 // The entry that ends an operation: a read gives the held value.
@@ -409,24 +340,14 @@ fn last_entry(goal: Goal, client: Client, held: Pair) -> Entry
 }
 
 // The operation ends: the record gets its entry, the client is idle.
-fn ended(
-    replicas: u8,
-    power: u16,
-    party: Party,
-    pair: Pair,
-    m: Message,
-    goal: Goal,
-    held: Pair,
-) -> Outcome
-    ensures { λ r. ⌜ r ≡ planned (sightOf replicas power party pair) (partyAt (party .op) Idle) true (Ended (lastEntry goal (m .client) held)) m 0 ⌝ }
+fn ended(sight: Sight, m: Message, goal: Goal, held: Pair) -> Outcome
+    ensures { λ r. ⌜ r ≡ planned sight (partyAt (sight .party .op) Idle) true (Ended (lastEntry goal (m .client) held)) m 0 ⌝ }
 {
     let client = m.client;
     let entry = last_entry(goal, client, held);
     planned(
-        replicas,
-        power,
-        pair,
-        at_work(party.op, Work::Idle),
+        sight,
+        at_work(sight.party.op, Work::Idle),
         true,
         Note::Ended(entry),
         m,
@@ -435,21 +356,11 @@ fn ended(
 }
 
 // A kept that counts: at a majority the operation ends, the record gets its entry, the client is idle.
-fn kept_counts(
-    replicas: u8,
-    power: u16,
-    party: Party,
-    pair: Pair,
-    m: Message,
-    cell: Cell,
-    goal: Goal,
-    set: u16,
-    held: Pair,
-) -> Outcome
-    ensures { λ r. ⌜ r ≡ keptCounts (sightOf replicas power party pair) m cell goal set held ⌝ }
+fn kept_counts(sight: Sight, m: Message, cell: Cell, goal: Goal, set: u16, held: Pair) -> Outcome
+    ensures { λ r. ⌜ r ≡ keptCounts sight m cell goal set held ⌝ }
 {
-    if quorum::keeps_enough(replicas, set) {
-        return ended(replicas, power, party, pair, m, goal, held);
+    if quorum::keeps_enough(sight.replicas, set) {
+        return ended(sight, m, goal, held);
     }
     let work = Work::Keeping {
         cell: cell,
@@ -458,10 +369,8 @@ fn kept_counts(
         held: held,
     };
     planned(
-        replicas,
-        power,
-        pair,
-        at_work(party.op, work),
+        sight,
+        at_work(sight.party.op, work),
         true,
         Note::Nothing,
         m,
@@ -470,17 +379,17 @@ fn kept_counts(
 }
 
 // A kept counts only in the keep phase, and if this replica isn't yet in the set.
-fn kept_in(work: Work, replicas: u8, power: u16, party: Party, pair: Pair, m: Message) -> Outcome
-    ensures { λ r. ⌜ r ≡ keptIn work (sightOf replicas power party pair) m ⌝ }
+fn kept_in(work: Work, sight: Sight, m: Message) -> Outcome
+    ensures { λ r. ⌜ r ≡ keptIn work sight m ⌝ }
 {
     match work {
-        Work::Idle => used_up(replicas, power, party, pair, m),
+        Work::Idle => used_up(sight, m),
         Work::Asking {
             cell: _,
             goal: _,
             set: _,
             held: _,
-        } => used_up(replicas, power, party, pair, m),
+        } => used_up(sight, m),
         Work::Keeping {
             cell,
             goal,
@@ -489,55 +398,45 @@ fn kept_in(work: Work, replicas: u8, power: u16, party: Party, pair: Pair, m: Me
         } => {
             let keeper = m.replica;
             if quorum::has(set, keeper) {
-                return used_up(replicas, power, party, pair, m);
+                return used_up(sight, m);
             }
-            kept_counts(
-                replicas,
-                power,
-                party,
-                pair,
-                m,
-                cell,
-                goal,
-                quorum::with(set, keeper),
-                held,
-            )
+            kept_counts(sight, m, cell, goal, quorum::with(set, keeper), held)
         }
     }
 }
 
-fn kept(replicas: u8, power: u16, party: Party, pair: Pair, m: Message) -> Outcome
-    ensures { λ r. ⌜ r ≡ keptOf (sightOf replicas power party pair) m ⌝ }
+fn kept(sight: Sight, m: Message) -> Outcome
+    ensures { λ r. ⌜ r ≡ keptOf sight m ⌝ }
 {
+    let party = sight.party;
     if current(party, m) {
         let work = party.work;
-        return kept_in(work, replicas, power, party, pair, m);
+        return kept_in(work, sight, m);
     }
-    used_up(replicas, power, party, pair, m)
+    used_up(sight, m)
 }
 
 // The message is taken out, then acted on.
-fn deliver(replicas: u8, power: u16, party: Party, pair: Pair, m: Message) -> Outcome
-    ensures { λ r. ⌜ r ≡ deliverOf (sightOf replicas power party pair) m ⌝ }
+fn deliver(sight: Sight, m: Message) -> Outcome
+    ensures { λ r. ⌜ r ≡ deliverOf sight m ⌝ }
 {
     let body = m.body;
     match body {
-        Body::Ask => ask(replicas, power, party, pair, m),
-        Body::Tell(q) => tell(replicas, power, party, pair, m, q),
-        Body::Keep(q) => keep(replicas, power, party, pair, m, q),
-        Body::Kept => kept(replicas, power, party, pair, m),
+        Body::Ask => ask(sight, m),
+        Body::Tell(q) => tell(sight, m, q),
+        Body::Keep(q) => keep(sight, m, q),
+        Body::Kept => kept(sight, m),
     }
 }
 
 // The same message also in the lowest free slot.
-fn copy(replicas: u8, power: u16, party: Party, pair: Pair, m: Message) -> Outcome
-    ensures { λ r. ⌜ r ≡ copyOf (sightOf replicas power party pair) m ⌝ }
+fn copy(sight: Sight, m: Message) -> Outcome
+    ensures { λ r. ⌜ r ≡ copyOf sight m ⌝ }
 {
     let replica = m.replica;
+    let party = sight.party;
     planned(
-        replicas,
-        power,
-        pair,
+        sight,
         party,
         false,
         Note::Nothing,
@@ -547,34 +446,25 @@ fn copy(replicas: u8, power: u16, party: Party, pair: Pair, m: Message) -> Outco
 }
 
 // The present request, once more to each replica not in the set.
-fn again(
-    replicas: u8,
-    power: u16,
-    party: Party,
-    pair: Pair,
-    client: Client,
-    cell: Cell,
-    set: u16,
-    body: Body,
-) -> Outcome
-    ensures { λ r. ⌜ r ≡ planned (sightOf replicas power party pair) party false Nothing (messageOf client (record { 0 = 0 }) cell (party .op) body) (others replicas set) ⌝ }
+fn again(sight: Sight, client: Client, cell: Cell, set: u16, body: Body) -> Outcome
+    ensures { λ r. ⌜ r ≡ planned sight (sight .party) false Nothing (messageOf client (record { 0 = 0 }) cell (sight .party .op) body) (others (sight .replicas) set) ⌝ }
 {
+    let party = sight.party;
     planned(
-        replicas,
-        power,
-        pair,
+        sight,
         party,
         false,
         Note::Nothing,
-        message_of(client, Replica(0), cell, party.op, body),
-        quorum::others(replicas, set),
+        message_of(client, Replica(0), cell, sight.party.op, body),
+        quorum::others(sight.replicas, set),
     )
 }
 
 // Resend: the stamp isn't chosen anew.
-fn resend(replicas: u8, power: u16, party: Party, pair: Pair, client: Client) -> Outcome
-    ensures { λ r. ⌜ r ≡ resendOf (sightOf replicas power party pair) client ⌝ }
+fn resend(sight: Sight, client: Client) -> Outcome
+    ensures { λ r. ⌜ r ≡ resendOf sight client ⌝ }
 {
+    let party = sight.party;
     if party.stopped {
         return Outcome::No(5);
     }
@@ -586,22 +476,13 @@ fn resend(replicas: u8, power: u16, party: Party, pair: Pair, client: Client) ->
             goal: _,
             set,
             held: _,
-        } => again(replicas, power, party, pair, client, cell, set, Body::Ask),
+        } => again(sight, client, cell, set, Body::Ask),
         Work::Keeping {
             cell,
             goal: _,
             set,
             held,
-        } => again(
-            replicas,
-            power,
-            party,
-            pair,
-            client,
-            cell,
-            set,
-            Body::Keep(held),
-        ),
+        } => again(sight, client, cell, set, Body::Keep(held)),
     }
 }
 
@@ -613,9 +494,10 @@ fn no_message() -> Message
 }
 
 // It never acts again; its operation stays open.
-fn stop(replicas: u8, power: u16, party: Party, pair: Pair) -> Outcome
-    ensures { λ r. ⌜ r ≡ stopOf (sightOf replicas power party pair) ⌝ }
+fn stop(sight: Sight) -> Outcome
+    ensures { λ r. ⌜ r ≡ stopOf sight ⌝ }
 {
+    let party = sight.party;
     if party.stopped {
         return Outcome::No(5);
     }
@@ -625,120 +507,101 @@ fn stop(replicas: u8, power: u16, party: Party, pair: Pair) -> Outcome
         op: party.op,
         work: work,
     };
-    planned(
-        replicas,
-        power,
-        pair,
-        stopped,
-        false,
-        Note::Nothing,
-        no_message(),
-        0,
-    )
+    planned(sight, stopped, false, Note::Nothing, no_message(), 0)
 }
 
 // A replica is switched: its pairs stay.
-fn powered(replicas: u8, power: u16, party: Party, pair: Pair, after: u16) -> Outcome
-    ensures { λ r. ⌜ r ≡ powered (sightOf replicas power party pair) after ⌝ }
+fn powered(sight: Sight, after: u16) -> Outcome
+    ensures { λ r. ⌜ r ≡ powered sight after ⌝ }
 {
-    planned(
-        replicas,
-        after,
-        pair,
-        party,
-        false,
-        Note::Nothing,
-        no_message(),
-        0,
-    )
+    let party = sight.party;
+    let pair = sight.pair;
+    let plan = Plan {
+        party: party,
+        pair: pair,
+        power: after,
+        clear: false,
+        note: Note::Nothing,
+        message: no_message(),
+        to: 0,
+    };
+    Outcome::Go(plan)
 }
 
-fn off(replicas: u8, power: u16, party: Party, pair: Pair, replica: Replica) -> Outcome
-    ensures { λ r. ⌜ r ≡ offOf (sightOf replicas power party pair) replica ⌝ }
+fn off(sight: Sight, replica: Replica) -> Outcome
+    ensures { λ r. ⌜ r ≡ offOf sight replica ⌝ }
 {
-    if quorum::has(power, replica) {
-        return powered(
-            replicas,
-            power,
-            party,
-            pair,
-            quorum::without(power, replica),
-        );
+    if quorum::has(sight.power, replica) {
+        return powered(sight, quorum::without(sight.power, replica));
     }
     Outcome::No(9)
 }
 
-fn on(replicas: u8, power: u16, party: Party, pair: Pair, replica: Replica) -> Outcome
-    ensures { λ r. ⌜ r ≡ onOf (sightOf replicas power party pair) replica ⌝ }
+fn on(sight: Sight, replica: Replica) -> Outcome
+    ensures { λ r. ⌜ r ≡ onOf sight replica ⌝ }
 {
-    if quorum::has(power, replica) {
+    if quorum::has(sight.power, replica) {
         return Outcome::No(9);
     }
-    powered(replicas, power, party, pair, quorum::with(power, replica))
+    powered(sight, quorum::with(sight.power, replica))
 }
 
 // What a slot holds is delivered.
-fn deliver_held(replicas: u8, power: u16, party: Party, pair: Pair, held: Held) -> Outcome
-    ensures { λ r. ⌜ r ≡ ofSlot (deliverOf (sightOf replicas power party pair)) held ⌝ }
+fn deliver_held(sight: Sight, held: Held) -> Outcome
+    ensures { λ r. ⌜ r ≡ ofSlot (deliverOf sight) held ⌝ }
 {
     match held {
         Held::Empty => Outcome::No(4),
-        Held::Full(m) => deliver(replicas, power, party, pair, m),
+        Held::Full(m) => deliver(sight, m),
     }
 }
 
 // What a slot holds is lost.
-fn lose_held(replicas: u8, power: u16, party: Party, pair: Pair, held: Held) -> Outcome
-    ensures { λ r. ⌜ r ≡ ofSlot (usedUp (sightOf replicas power party pair)) held ⌝ }
+fn lose_held(sight: Sight, held: Held) -> Outcome
+    ensures { λ r. ⌜ r ≡ ofSlot (usedUp sight) held ⌝ }
 {
     match held {
         Held::Empty => Outcome::No(4),
-        Held::Full(m) => used_up(replicas, power, party, pair, m),
+        Held::Full(m) => used_up(sight, m),
     }
 }
 
 // What a slot holds is copied.
-fn copy_held(replicas: u8, power: u16, party: Party, pair: Pair, held: Held) -> Outcome
-    ensures { λ r. ⌜ r ≡ ofSlot (copyOf (sightOf replicas power party pair)) held ⌝ }
+fn copy_held(sight: Sight, held: Held) -> Outcome
+    ensures { λ r. ⌜ r ≡ ofSlot (copyOf sight) held ⌝ }
 {
     match held {
         Held::Empty => Outcome::No(4),
-        Held::Full(m) => copy(replicas, power, party, pair, m),
+        Held::Full(m) => copy(sight, m),
     }
 }
 
 // The plan for an event, with what its slot holds.
-pub fn plan(replicas: u8, power: u16, party: Party, pair: Pair, held: Held, event: Event) -> Outcome
-    ensures { λ r. ⌜ r ≡ planOf (record { replicas = replicas; power = power; party = party; pair = pair }) held event ⌝ }
+pub fn plan(sight: Sight, held: Held, event: Event) -> Outcome
+    ensures { λ r. ⌜ r ≡ planOf sight held event ⌝ }
 {
     match event {
         Event::StartRead(client, cell) => start(
-            replicas,
-            power,
-            party,
-            pair,
+            sight,
             client,
             cell,
             Goal::Read,
             Entry::ReadAsked(client, cell),
         ),
         Event::StartWrite(client, cell, v) => start(
-            replicas,
-            power,
-            party,
-            pair,
+            sight,
             client,
             cell,
             Goal::Write(v),
             Entry::WriteAsked(client, cell, v),
         ),
-        Event::Deliver(_) => deliver_held(replicas, power, party, pair, held),
-        Event::Lose(_) => lose_held(replicas, power, party, pair, held),
-        Event::Copy(_) => copy_held(replicas, power, party, pair, held),
-        Event::Resend(client) => resend(replicas, power, party, pair, client),
-        Event::Stop(_) => stop(replicas, power, party, pair),
-        Event::Off(replica) => off(replicas, power, party, pair, replica),
-        Event::On(replica) => on(replicas, power, party, pair, replica),
+        Event::Deliver(_) => deliver_held(sight, held),
+        Event::Lose(_) => lose_held(sight, held),
+        Event::Copy(_) => copy_held(sight, held),
+        Event::Resend(client) => resend(sight, client),
+        Event::Stop(_) => stop(sight),
+        Event::Off(replica) => off(sight, replica),
+        Event::On(replica) => on(sight, replica),
         Event::Unknown => Outcome::No(3),
     }
 }

@@ -15,6 +15,7 @@ use Rattle.method.specs.declared.Party.{Party}
 use Rattle.rack.specs.declared.Sizes.{Sizes}
 use Rattle.rack.specs.declared.Rack.{Rack}
 use Rattle.stamps.specs.Stamp.{freshPair}
+use Rattle.method.specs.declared.Sight.{Sight}
 use Rattle.method.specs.declared.Event.{Event}
 use Rattle.method.specs.declared.Event.the-variants.{StartRead, StartWrite, Deliver, Lose, Copy, Resend, Stop, Off, On, Unknown}
 use Rattle.method.specs.declared.Note.{Note}
@@ -22,8 +23,7 @@ use Rattle.method.specs.declared.Note.the-variants.{Nothing, Asked, Ended}
 use Rattle.method.specs.declared.Plan.{Plan}
 use Rattle.method.specs.declared.Outcome.{Outcome}
 use Rattle.method.specs.declared.Outcome.the-variants.{No, Go}
-use Rattle.method.specs.Plan.{Sight, planOf}
-use Rattle.method.specs.Sight.{sightOf}
+use Rattle.method.specs.Plan.{planOf}
 use Rattle.rack.specs.Places.{slotLimit, partyAt, heldAt, roomOf}
 use Rattle.rack.specs.Sound.{pairFits, heldFits, workFits, owedBy, owed, soundOf}
 use Rattle.method.specs.About.{clientIn, clientOf}
@@ -154,7 +154,7 @@ pub record Decided (r : Rack) (e : Event) (p : Plan) : Type 0 where
 
 -- the plan that passed is the plan for the event
 abbrev sight : Rack → Event → Sight
-sight r e = sightOf (r .sizes .replicas) (r .power) (lookedParty r e) (lookedPair r e)
+sight r e = record { replicas = r .sizes .replicas; power = r .power; party = lookedParty r e; pair = lookedPair r e }
 
 in-go : (t : Bool) (o : Outcome) (p : Plan) → cond t o (No 3) ≡ Go p → (t ≡ true) × (o ≡ Go p)
 in-go true o p e = (refl, e)

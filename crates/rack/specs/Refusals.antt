@@ -22,6 +22,7 @@ use Rattle.method.specs.declared.Goal.the-variants.{Read, Write}
 use Rattle.method.specs.declared.Work.{Work}
 use Rattle.method.specs.declared.Work.the-variants.{Idle, Asking, Keeping}
 use Rattle.rack.specs.declared.Rack.{Rack}
+use Rattle.method.specs.declared.Sight.{Sight}
 use Rattle.method.specs.declared.Event.{Event}
 use Rattle.method.specs.declared.Event.the-variants.{StartRead, StartWrite, Deliver, Lose, Copy, Resend, Stop, Off, On, Unknown}
 use Rattle.method.specs.declared.Note.{Note}
@@ -29,12 +30,11 @@ use Rattle.method.specs.declared.Note.the-variants.{Nothing, Asked, Ended}
 use Rattle.method.specs.declared.Plan.{Plan}
 use Rattle.method.specs.declared.Outcome.{Outcome}
 use Rattle.method.specs.declared.Outcome.the-variants.{No, Go}
-use Rattle.method.specs.Plan.{Sight, started, startIn, startOf, askOf, keepOf, current, keepsOf, phaseEnds, holds, tellCounts, tellIn, tellOf, keptCounts, keptIn, keptOf, deliverIn, deliverOf, copyOf, resendIn, resendOf, stopOf, powered, offOf, onOf, ofSlot, planOf}
+use Rattle.method.specs.Plan.{started, startIn, startOf, askOf, keepOf, current, keepsOf, phaseEnds, holds, tellCounts, tellIn, tellOf, keptCounts, keptIn, keptOf, deliverIn, deliverOf, copyOf, resendIn, resendOf, stopOf, powered, offOf, onOf, ofSlot, planOf}
 use Rattle.rack.specs.Places.{roomOf}
 use Rattle.rack.specs.Sound.{owed}
 use Rattle.rack.specs.Run.{inRack, noted, freed, checked, decided}
 use Rattle.rack.specs.Decided.{lookedHeld, lookedParty, lookedPair}
-use Rattle.method.specs.Sight.{sightOf}
 
 -- ---- the plan's: 3 to 10, and 12
 
@@ -144,7 +144,7 @@ unfolding decided
 decided-refuses r e k d = go (inRack (r .sizes) e) d
   where
     seen : Sight
-    seen = sightOf (r .sizes .replicas) (r .power) (lookedParty r e) (lookedPair r e)
+    seen = record { replicas = r .sizes .replicas; power = r .power; party = lookedParty r e; pair = lookedPair r e }
 
     either-way : (planOf seen (lookedHeld r e) e ≡ No k) ⊎ ((k ≡ 11) ⊎ (k ≡ 13)) → (3 ≤ k) × (k ≤ 13)
     either-way (inl w) = ⊎-elim (λ (x : (3 ≤ k) × (k ≤ 10)). (x .0, omega arith)) (λ (x : k ≡ 12). (omega arith, omega arith)) (plan-refuses seen (lookedHeld r e) e k w)

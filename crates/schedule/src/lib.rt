@@ -18,6 +18,7 @@ use method::Message;
 use method::Note;
 use method::Outcome;
 use method::Party;
+use method::Sight;
 use plan::plan;
 use rack::Line;
 use rack::Rack;
@@ -199,7 +200,13 @@ fn go_on(mut r: Rack, start: Start, allowance: usize, events: &[u32]) -> Ran
         let a = place_in(held);
         let party = r.parties[c];
         let pair = r.pairs[a];
-        let planned = plan(sizes.replicas, r.power, party, pair, held, event);
+        let sight = Sight {
+            replicas: sizes.replicas,
+            power: r.power,
+            party: party,
+            pair: pair,
+        };
+        let planned = plan(sight, held, event);
         let outcome = checked(planned, r.count + owing, slots::count(&free));
         match outcome {
             Outcome::No(refusal) => {

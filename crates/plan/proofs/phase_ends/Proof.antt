@@ -4,7 +4,6 @@ use borrow.Author.Tests.{eq-eqb, ne-eqb}
 use mir.Facts.{toZ-ofZ}
 use mir.Syntax.{w32}
 use Rattle.method.specs.Plan.{phaseEnds}
-use borrow.Author.Needs.{needs}
 use Rattle.plan.proofs.phase_ends.Statement.{statement}
 use Rattle.plan.proofs.phase_ends.Tie as tie
 
@@ -21,8 +20,8 @@ returns : tie.Need-returns
 unfolding phaseEnds
 returns c = rw (c .before .before .before .goal .given .1, eq-eqb _ _ (c .if1 .taken))
 
-add-t17 : tie.Need-add-t17
-add-t17 c = search needs
+add-next : tie.Need-add-next
+add-next c = search needs
 
 keeps-requires-2 : tie.Need-keeps-requires-2
 keeps-requires-2 c κs = search needs
@@ -43,7 +42,7 @@ phase-ends-spec =
     keeps-requires
     enum-known-goal
     returns
-    add-t17
+    add-next
     keeps-requires-2
     returns-2
     returns-3)

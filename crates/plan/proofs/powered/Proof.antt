@@ -7,12 +7,9 @@ use Rattle.plan.proofs.powered.Tie as tie
 no-message-requires : tie.Need-no-message-requires
 no-message-requires c κs = search needs
 
-planned-requires : tie.Need-planned-requires
-planned-requires c κs = search needs
-
 returns : tie.Need-returns
 unfolding powered
-returns c = rw (c .planned .ensures, c .before .no-message .ensures)
+returns c = rw (c .no-message .ensures)
 
 pub powered-spec : {M : Type 1} → statement M
-powered-spec = tie.close (tie.spec no-message-requires planned-requires returns)
+powered-spec = tie.close (tie.spec no-message-requires returns)

@@ -124,8 +124,8 @@ element-copy-out-old c = (there _ _ _ _ _ _ _ (c .before .before .before .before
 slot-after-requires : tie.Need-slot-after-requires Inv-loop2 μ-loop2 Inv-loop μ-loop
 slot-after-requires c κs = search needs
 
-mul-t57 : tie.Need-mul-t57 Inv-loop2 μ-loop2 Inv-loop μ-loop
-mul-t57 c = record { fits = omega (arith, (there _ _ _ _ _ _ _ (c .before .before .before .before .before .before .before .before .before .before .before .before .before .before .before .before .before .before .before .before .before .before .before .loop .inv .2) _ _ _ _ (sym (c .before .before .before .before .before .before .before .before .before .before .before .before .before .before .before .before .before .before .before .in-rack .ensures) ∙ not-false _ (c .before .before .before .before .before .before .before .before .before .before .before .before .before .before .before .before .before .before .if1 .left)) (c .before .before .before .before .before .before .before .before .before .before .before .before .before .before .before .before .before .slot-of .ensures) (c .before .before .before .before .before .before .before .before .before .before .before .before .before .before .before .client-of .ensures) (c .before .before .before .before .before .before .before .before .before .before .before .before .before .before .place-in .ensures)) .slot) }
+mul-t58 : tie.Need-mul-t58 Inv-loop2 μ-loop2 Inv-loop μ-loop
+mul-t58 c = record { fits = omega (arith, (there _ _ _ _ _ _ _ (c .before .before .before .before .before .before .before .before .before .before .before .before .before .before .before .before .before .before .before .before .before .before .before .loop .inv .2) _ _ _ _ (sym (c .before .before .before .before .before .before .before .before .before .before .before .before .before .before .before .before .before .before .before .in-rack .ensures) ∙ not-false _ (c .before .before .before .before .before .before .before .before .before .before .before .before .before .before .before .before .before .before .if1 .left)) (c .before .before .before .before .before .before .before .before .before .before .before .before .before .before .before .before .before .slot-of .ensures) (c .before .before .before .before .before .before .before .before .before .before .before .before .before .before .before .client-of .ensures) (c .before .before .before .before .before .before .before .before .before .before .before .before .before .before .place-in .ensures)) .slot) }
 
 element-set-from-r : tie.Need-element-set-from-r Inv-loop2 μ-loop2 Inv-loop μ-loop
 element-set-from-r c = (there _ _ _ _ _ _ _ (c .before .before .before .before .before .before .before .before .before .before .before .before .before .before .before .before .before .before .before .before .before .before .before .loop .inv .2) _ _ _ _ (sym (c .before .before .before .before .before .before .before .before .before .before .before .before .before .before .before .before .before .before .before .in-rack .ensures) ∙ not-false _ (c .before .before .before .before .before .before .before .before .before .before .before .before .before .before .before .before .before .before .if1 .left)) (c .before .before .before .before .before .before .before .before .before .before .before .before .before .before .before .before .before .slot-of .ensures) (c .before .before .before .before .before .before .before .before .before .before .before .before .before .before .before .client-of .ensures) (c .before .before .before .before .before .before .before .before .before .before .before .before .before .before .place-in .ensures)) .slot
@@ -148,8 +148,8 @@ others-requires c κs = search needs
 take-requires : tie.Need-take-requires Inv-loop2 μ-loop2 Inv-loop μ-loop
 take-requires c κs = search needs
 
-mul-t73 : tie.Need-mul-t73 Inv-loop2 μ-loop2 Inv-loop μ-loop
-mul-t73 c = record { fits = omega (arith, sending-place _ _ _ _ _ _ _ ((c .before .before .before .before .before .before .loop2 .inv) .send) (c .before .before .before .before .before .loop2-test .taken) _ _ (c .take .ensures .1 _ ((c .before .before .before .before .before .before .loop2 .inv) .send .tied))) }
+mul-t74 : tie.Need-mul-t74 Inv-loop2 μ-loop2 Inv-loop μ-loop
+mul-t74 c = record { fits = omega (arith, sending-place _ _ _ _ _ _ _ ((c .before .before .before .before .before .before .loop2 .inv) .send) (c .before .before .before .before .before .loop2-test .taken) _ _ (c .take .ensures .1 _ ((c .before .before .before .before .before .before .loop2 .inv) .send .tied))) }
 
 element-set-from-r-2 : tie.Need-element-set-from-r-2 Inv-loop2 μ-loop2 Inv-loop μ-loop
 element-set-from-r-2 c = sending-place _ _ _ _ _ _ _ ((c .before .before .before .before .before .before .loop2 .inv) .send) (c .before .before .before .before .before .loop2-test .taken) _ _ (c .take .ensures .1 _ ((c .before .before .before .before .before .before .loop2 .inv) .send .tied))
@@ -183,8 +183,8 @@ loop-again c = (
 enum-known-note : tie.Need-enum-known-note Inv-loop2 μ-loop2 Inv-loop μ-loop
 enum-known-note c = search needs
 
-mul-t77 : tie.Need-mul-t77 Inv-loop2 μ-loop2 Inv-loop μ-loop
-mul-t77 c = record { fits = omega (arith, entry-place _ _ _ _ _ _ (c .before .before .before .before .loop2 .inv) ((c .before .before .before .before .before .before .before .before .before .before .before .before .before .before .outcome2 .given .0 .0) .note) (asked-one _ _ (c .before .note .given .1)) (going-entry _ _ _ _ _ _ _ (c .before .before .before .before .before .before .before .before .before .before .before .before .before .before .before .before .before .before .before .before .before .before .before .before .before .before .before .before .before .before .before .loop .inv .2) _ (c .before .before .before .before .before .before .before .before .before .before .before .before .before .before .outcome2 .given .0 .0) (going-plan _ _ _ _ _ _ _ (c .before .before .before .before .before .before .before .before .before .before .before .before .before .before .before .before .before .before .before .before .before .before .before .before .before .before .before .before .before .before .before .loop .inv .2) _ _ _ _ _ _ _ (sym (c .before .before .before .before .before .before .before .before .before .before .before .before .before .before .before .before .before .before .before .before .before .before .before .before .before .before .before .in-rack .ensures) ∙ not-false _ (c .before .before .before .before .before .before .before .before .before .before .before .before .before .before .before .before .before .before .before .before .before .before .before .before .before .before .if1 .left)) (c .before .before .before .before .before .before .before .before .before .before .before .before .before .before .before .before .before .before .before .before .before .before .before .before .before .slot-of .ensures) (c .before .before .before .before .before .before .before .before .before .before .before .before .before .before .before .before .before .before .before .before .before .before .before .client-of .ensures) (c .before .before .before .before .before .before .before .before .before .before .before .before .before .before .before .before .before .before .before .before .before .before .place-in .ensures) (c .before .before .before .before .before .before .before .before .before .before .before .before .before .before .before .before .before .count .ensures .1 _ (c .before .before .before .before .before .before .before .before .before .before .before .before .before .before .before .before .before .before .before .before .before .before .before .before .before .before .before .before .before .before .before .loop .inv .2 .tied)) (c .before .before .before .before .before .before .before .before .before .before .before .before .before .before .before .before .before .before .before .plan .ensures) (c .before .before .before .before .before .before .before .before .before .before .before .before .before .before .before .before .checked .ensures) ∙ c .before .before .before .before .before .before .before .before .before .before .before .before .before .before .outcome2 .given .1))) }
+mul-t78 : tie.Need-mul-t78 Inv-loop2 μ-loop2 Inv-loop μ-loop
+mul-t78 c = record { fits = omega (arith, entry-place _ _ _ _ _ _ (c .before .before .before .before .loop2 .inv) ((c .before .before .before .before .before .before .before .before .before .before .before .before .before .before .outcome2 .given .0 .0) .note) (asked-one _ _ (c .before .note .given .1)) (going-entry _ _ _ _ _ _ _ (c .before .before .before .before .before .before .before .before .before .before .before .before .before .before .before .before .before .before .before .before .before .before .before .before .before .before .before .before .before .before .before .loop .inv .2) _ (c .before .before .before .before .before .before .before .before .before .before .before .before .before .before .outcome2 .given .0 .0) (going-plan _ _ _ _ _ _ _ (c .before .before .before .before .before .before .before .before .before .before .before .before .before .before .before .before .before .before .before .before .before .before .before .before .before .before .before .before .before .before .before .loop .inv .2) _ _ _ _ _ _ _ (sym (c .before .before .before .before .before .before .before .before .before .before .before .before .before .before .before .before .before .before .before .before .before .before .before .before .before .before .before .in-rack .ensures) ∙ not-false _ (c .before .before .before .before .before .before .before .before .before .before .before .before .before .before .before .before .before .before .before .before .before .before .before .before .before .before .if1 .left)) (c .before .before .before .before .before .before .before .before .before .before .before .before .before .before .before .before .before .before .before .before .before .before .before .before .before .slot-of .ensures) (c .before .before .before .before .before .before .before .before .before .before .before .before .before .before .before .before .before .before .before .before .before .before .before .client-of .ensures) (c .before .before .before .before .before .before .before .before .before .before .before .before .before .before .before .before .before .before .before .before .before .before .place-in .ensures) (c .before .before .before .before .before .before .before .before .before .before .before .before .before .before .before .before .before .count .ensures .1 _ (c .before .before .before .before .before .before .before .before .before .before .before .before .before .before .before .before .before .before .before .before .before .before .before .before .before .before .before .before .before .before .before .loop .inv .2 .tied)) (c .before .before .before .before .before .before .before .before .before .before .before .before .before .before .before .before .before .before .before .plan .ensures) (c .before .before .before .before .before .before .before .before .before .before .before .before .before .before .before .before .checked .ensures) ∙ c .before .before .before .before .before .before .before .before .before .before .before .before .before .before .outcome2 .given .1))) }
 
 element-set-from-r-3 : tie.Need-element-set-from-r-3 Inv-loop2 μ-loop2 Inv-loop μ-loop
 element-set-from-r-3 c = entry-place _ _ _ _ _ _ (c .before .before .before .before .loop2 .inv) ((c .before .before .before .before .before .before .before .before .before .before .before .before .before .before .outcome2 .given .0 .0) .note) (asked-one _ _ (c .before .note .given .1)) (going-entry _ _ _ _ _ _ _ (c .before .before .before .before .before .before .before .before .before .before .before .before .before .before .before .before .before .before .before .before .before .before .before .before .before .before .before .before .before .before .before .loop .inv .2) _ (c .before .before .before .before .before .before .before .before .before .before .before .before .before .before .outcome2 .given .0 .0) (going-plan _ _ _ _ _ _ _ (c .before .before .before .before .before .before .before .before .before .before .before .before .before .before .before .before .before .before .before .before .before .before .before .before .before .before .before .before .before .before .before .loop .inv .2) _ _ _ _ _ _ _ (sym (c .before .before .before .before .before .before .before .before .before .before .before .before .before .before .before .before .before .before .before .before .before .before .before .before .before .before .before .in-rack .ensures) ∙ not-false _ (c .before .before .before .before .before .before .before .before .before .before .before .before .before .before .before .before .before .before .before .before .before .before .before .before .before .before .if1 .left)) (c .before .before .before .before .before .before .before .before .before .before .before .before .before .before .before .before .before .before .before .before .before .before .before .before .before .slot-of .ensures) (c .before .before .before .before .before .before .before .before .before .before .before .before .before .before .before .before .before .before .before .before .before .before .before .client-of .ensures) (c .before .before .before .before .before .before .before .before .before .before .before .before .before .before .before .before .before .before .before .before .before .before .place-in .ensures) (c .before .before .before .before .before .before .before .before .before .before .before .before .before .before .before .before .before .count .ensures .1 _ (c .before .before .before .before .before .before .before .before .before .before .before .before .before .before .before .before .before .before .before .before .before .before .before .before .before .before .before .before .before .before .before .loop .inv .2 .tied)) (c .before .before .before .before .before .before .before .before .before .before .before .before .before .before .before .before .before .before .before .plan .ensures) (c .before .before .before .before .before .before .before .before .before .before .before .before .before .before .before .before .checked .ensures) ∙ c .before .before .before .before .before .before .before .before .before .before .before .before .before .before .outcome2 .given .1))
@@ -207,8 +207,8 @@ loop-again-2 c = (
 enum-known-note-2 : tie.Need-enum-known-note-2 Inv-loop2 μ-loop2 Inv-loop μ-loop
 enum-known-note-2 c = search needs
 
-mul-t81 : tie.Need-mul-t81 Inv-loop2 μ-loop2 Inv-loop μ-loop
-mul-t81 c = record { fits = omega (arith, entry-place _ _ _ _ _ _ (c .before .before .before .before .loop2 .inv) ((c .before .before .before .before .before .before .before .before .before .before .before .before .before .before .outcome2 .given .0 .0) .note) (ended-one _ _ (c .before .note2 .given .1)) (going-entry _ _ _ _ _ _ _ (c .before .before .before .before .before .before .before .before .before .before .before .before .before .before .before .before .before .before .before .before .before .before .before .before .before .before .before .before .before .before .before .loop .inv .2) _ (c .before .before .before .before .before .before .before .before .before .before .before .before .before .before .outcome2 .given .0 .0) (going-plan _ _ _ _ _ _ _ (c .before .before .before .before .before .before .before .before .before .before .before .before .before .before .before .before .before .before .before .before .before .before .before .before .before .before .before .before .before .before .before .loop .inv .2) _ _ _ _ _ _ _ (sym (c .before .before .before .before .before .before .before .before .before .before .before .before .before .before .before .before .before .before .before .before .before .before .before .before .before .before .before .in-rack .ensures) ∙ not-false _ (c .before .before .before .before .before .before .before .before .before .before .before .before .before .before .before .before .before .before .before .before .before .before .before .before .before .before .if1 .left)) (c .before .before .before .before .before .before .before .before .before .before .before .before .before .before .before .before .before .before .before .before .before .before .before .before .before .slot-of .ensures) (c .before .before .before .before .before .before .before .before .before .before .before .before .before .before .before .before .before .before .before .before .before .before .before .client-of .ensures) (c .before .before .before .before .before .before .before .before .before .before .before .before .before .before .before .before .before .before .before .before .before .before .place-in .ensures) (c .before .before .before .before .before .before .before .before .before .before .before .before .before .before .before .before .before .count .ensures .1 _ (c .before .before .before .before .before .before .before .before .before .before .before .before .before .before .before .before .before .before .before .before .before .before .before .before .before .before .before .before .before .before .before .loop .inv .2 .tied)) (c .before .before .before .before .before .before .before .before .before .before .before .before .before .before .before .before .before .before .before .plan .ensures) (c .before .before .before .before .before .before .before .before .before .before .before .before .before .before .before .before .checked .ensures) ∙ c .before .before .before .before .before .before .before .before .before .before .before .before .before .before .outcome2 .given .1))) }
+mul-t82 : tie.Need-mul-t82 Inv-loop2 μ-loop2 Inv-loop μ-loop
+mul-t82 c = record { fits = omega (arith, entry-place _ _ _ _ _ _ (c .before .before .before .before .loop2 .inv) ((c .before .before .before .before .before .before .before .before .before .before .before .before .before .before .outcome2 .given .0 .0) .note) (ended-one _ _ (c .before .note2 .given .1)) (going-entry _ _ _ _ _ _ _ (c .before .before .before .before .before .before .before .before .before .before .before .before .before .before .before .before .before .before .before .before .before .before .before .before .before .before .before .before .before .before .before .loop .inv .2) _ (c .before .before .before .before .before .before .before .before .before .before .before .before .before .before .outcome2 .given .0 .0) (going-plan _ _ _ _ _ _ _ (c .before .before .before .before .before .before .before .before .before .before .before .before .before .before .before .before .before .before .before .before .before .before .before .before .before .before .before .before .before .before .before .loop .inv .2) _ _ _ _ _ _ _ (sym (c .before .before .before .before .before .before .before .before .before .before .before .before .before .before .before .before .before .before .before .before .before .before .before .before .before .before .before .in-rack .ensures) ∙ not-false _ (c .before .before .before .before .before .before .before .before .before .before .before .before .before .before .before .before .before .before .before .before .before .before .before .before .before .before .if1 .left)) (c .before .before .before .before .before .before .before .before .before .before .before .before .before .before .before .before .before .before .before .before .before .before .before .before .before .slot-of .ensures) (c .before .before .before .before .before .before .before .before .before .before .before .before .before .before .before .before .before .before .before .before .before .before .before .client-of .ensures) (c .before .before .before .before .before .before .before .before .before .before .before .before .before .before .before .before .before .before .before .before .before .before .place-in .ensures) (c .before .before .before .before .before .before .before .before .before .before .before .before .before .before .before .before .before .count .ensures .1 _ (c .before .before .before .before .before .before .before .before .before .before .before .before .before .before .before .before .before .before .before .before .before .before .before .before .before .before .before .before .before .before .before .loop .inv .2 .tied)) (c .before .before .before .before .before .before .before .before .before .before .before .before .before .before .before .before .before .before .before .plan .ensures) (c .before .before .before .before .before .before .before .before .before .before .before .before .before .before .before .before .checked .ensures) ∙ c .before .before .before .before .before .before .before .before .before .before .before .before .before .before .outcome2 .given .1))) }
 
 element-set-from-r-4 : tie.Need-element-set-from-r-4 Inv-loop2 μ-loop2 Inv-loop μ-loop
 element-set-from-r-4 c = entry-place _ _ _ _ _ _ (c .before .before .before .before .loop2 .inv) ((c .before .before .before .before .before .before .before .before .before .before .before .before .before .before .outcome2 .given .0 .0) .note) (ended-one _ _ (c .before .note2 .given .1)) (going-entry _ _ _ _ _ _ _ (c .before .before .before .before .before .before .before .before .before .before .before .before .before .before .before .before .before .before .before .before .before .before .before .before .before .before .before .before .before .before .before .loop .inv .2) _ (c .before .before .before .before .before .before .before .before .before .before .before .before .before .before .outcome2 .given .0 .0) (going-plan _ _ _ _ _ _ _ (c .before .before .before .before .before .before .before .before .before .before .before .before .before .before .before .before .before .before .before .before .before .before .before .before .before .before .before .before .before .before .before .loop .inv .2) _ _ _ _ _ _ _ (sym (c .before .before .before .before .before .before .before .before .before .before .before .before .before .before .before .before .before .before .before .before .before .before .before .before .before .before .before .in-rack .ensures) ∙ not-false _ (c .before .before .before .before .before .before .before .before .before .before .before .before .before .before .before .before .before .before .before .before .before .before .before .before .before .before .if1 .left)) (c .before .before .before .before .before .before .before .before .before .before .before .before .before .before .before .before .before .before .before .before .before .before .before .before .before .slot-of .ensures) (c .before .before .before .before .before .before .before .before .before .before .before .before .before .before .before .before .before .before .before .before .before .before .before .client-of .ensures) (c .before .before .before .before .before .before .before .before .before .before .before .before .before .before .before .before .before .before .before .before .before .before .place-in .ensures) (c .before .before .before .before .before .before .before .before .before .before .before .before .before .before .before .before .before .count .ensures .1 _ (c .before .before .before .before .before .before .before .before .before .before .before .before .before .before .before .before .before .before .before .before .before .before .before .before .before .before .before .before .before .before .before .loop .inv .2 .tied)) (c .before .before .before .before .before .before .before .before .before .before .before .before .before .before .before .before .before .before .before .plan .ensures) (c .before .before .before .before .before .before .before .before .before .before .before .before .before .before .before .before .checked .ensures) ∙ c .before .before .before .before .before .before .before .before .before .before .before .before .before .before .outcome2 .given .1))
@@ -274,7 +274,7 @@ go-on-spec =
     mul-old
     element-copy-out-old
     slot-after-requires
-    mul-t57
+    mul-t58
     element-set-from-r
     mark-requires
     loop2-holds
@@ -282,7 +282,7 @@ go-on-spec =
     message-to-requires
     others-requires
     take-requires
-    mul-t73
+    mul-t74
     element-set-from-r-2
     loop2-less
     loop2-again
@@ -291,13 +291,13 @@ go-on-spec =
     loop-less
     loop-again
     enum-known-note
-    mul-t77
+    mul-t78
     element-set-from-r-3
     add-r
     loop-less-2
     loop-again-2
     enum-known-note-2
-    mul-t81
+    mul-t82
     element-set-from-r-4
     add-r-2
     loop-less-3
