@@ -25,7 +25,6 @@ use Rattle.method.specs.declared.Party.{Party}
 use Rattle.rack.specs.declared.Line.{Line}
 use Rattle.rack.specs.declared.Sizes.{Sizes}
 use Rattle.rack.specs.declared.Rack.{Rack}
-use Rattle.method.specs.declared.Sight.{Sight}
 use Rattle.method.specs.declared.Event.{Event}
 use Rattle.method.specs.declared.Event.the-variants.{Unknown}
 use Rattle.method.specs.declared.Note.{Note}
@@ -40,7 +39,7 @@ use Rattle.rack.specs.Places.{slotLimit, empty, full, idle, heldIn, freeAt, roo
 use Rattle.rack.specs.Sound.{sizesFit, owed, soundOf}
 use Rattle.rack.specs.Run.{freshRack, madeOf, byte, eventOf, slotOf, decided, checked, addressed, cleared, recorded, entriesIn, appliedOf, turn, runFrom, runOf}
 use Rattle.rack.specs.SoundLaws.{Sized, Sound, sound-of}
-use Rattle.rack.specs.Decided.{lookedHeld, lookedClient, lookedParty, lookedPlace, lookedPair, Decided, decided-fits, checked-go}
+use Rattle.rack.specs.Decided.{lookedHeld, lookedClient, lookedParty, lookedPlace, lookedPair, sight, Decided, decided-fits, checked-go}
 use Rattle.rack.specs.Fresh.{made-sound}
 use Rattle.slots.specs.Free.{firstFree}
 use Rattle.quorum.specs.Sets.{membersOf}
@@ -153,10 +152,6 @@ small-stays r e p k before s h =
     }
 
 -- ---- an event that is done
-
--- what it looks at
-abbrev pub sight : Rack → Event → Sight
-sight r e = record { replicas = r .sizes .replicas; power = r .power; party = lookedParty r e; pair = lookedPair r e }
 
 -- the plan that it went by is the one that is planned for it
 pub decided-plan : (r : Rack) (e : Event) (p : Plan) → soundOf r ≡ true → decided r e ≡ Go p → planOf (sight r e) (lookedHeld r e) e ≡ Go p

@@ -41,7 +41,7 @@ use Rattle.method.specs.Plan.{started, startIn, startOf, askOf, keepOf, current
 use Rattle.rack.specs.Places.{recordOf}
 use Rattle.rack.specs.Sound.{soundOf}
 use Rattle.rack.specs.Run.{madeOf, eventOf, decided, appliedOf, turn, runFrom, runOf}
-use Rattle.rack.specs.Decided.{lookedHeld}
+use Rattle.rack.specs.Decided.{lookedHeld, sight}
 use Rattle.rack.specs.Fresh.{made-sound}
 use Rattle.schedule.specs.Stays.{sound-stays}
 use Rattle.schedule.specs.Steps.{sound-from}
@@ -49,7 +49,7 @@ use Rattle.promise.specs.Promise.{promise}
 use Rattle.back.specs.Standing.{Agrees}
 use Rattle.back.specs.Writes.{writesBy, writesOf, Differ}
 use Rattle.back.specs.Lines.{added}
-use Rattle.back.specs.Agrees.{sight, decided-plan, record-next, agree-stays, event-small, made-agrees, made-empty, run-legal}
+use Rattle.back.specs.Agrees.{decided-plan, record-next, agree-stays, event-small, made-agrees, made-empty, run-legal}
 use Rattle.back.specs.Back.{taken-legal}
 
 -- ---- entries without a repeat

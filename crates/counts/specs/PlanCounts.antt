@@ -38,7 +38,7 @@ use Rattle.rack.specs.Sound.{heldFits, owes, owed, soundOf}
 use Rattle.method.specs.About.{clientIn, clientOf}
 use Rattle.rack.specs.Run.{freed, checked, decided}
 use Rattle.rack.specs.SoundLaws.{Sound, sound-of, named}
-use Rattle.rack.specs.Decided.{lookedHeld, lookedClient, lookedParty, lookedPair, checked-go, Decided, decided-fits}
+use Rattle.rack.specs.Decided.{lookedHeld, lookedClient, lookedParty, lookedPair, sight, checked-go, Decided, decided-fits}
 use Rattle.rack.specs.Counts.{sentBy, deliveredBy}
 use Rattle.counts.specs.Costing.{requests-else, requests-own, none-sent, silent, answers, start-cost, phase-cost, same-cost}
 use Rattle.counts.specs.Counts.{copiedBy, lostBy, isRequest, requestsBy, resentBy, costIn, costOf, endsBy}
@@ -307,7 +307,7 @@ decided-counts r e p h g =
     let s : Sound r = sound-of r h in
     let d : Decided r e p = decided-fits r e p h g in
     let few : r .sizes .replicas ≤ 16 = omega (arith, s .sizes .replicas) in
-    let o = planOf (record { replicas = r .sizes .replicas; power = r .power; party = lookedParty r e; pair = lookedPair r e }) (lookedHeld r e) e in
+    let o = planOf (sight r e) (lookedHeld r e) e in
     let c : checked o (r .count + owed r) (roomOf (r .wire)) ≡ Go p =
     ap (λ (t : Bool). cond t (checked o (r .count + owed r) (roomOf (r .wire))) (No 3)) (sym (d .inside)) ∙ g in
     subst (OutcomeCounts (r .sizes .replicas) (lookedClient r e) (lookedParty r e) e)

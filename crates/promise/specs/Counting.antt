@@ -17,7 +17,7 @@ use Rattle.rack.specs.Places.{recordOf}
 use Rattle.rack.specs.Sound.{workFits}
 use Rattle.rack.specs.Run.{appliedOf}
 use Rattle.rack.specs.SoundLaws.{KeepOpen, keep-open}
-use Rattle.rack.specs.Decided.{lookedHeld, lookedClient, Looked}
+use Rattle.rack.specs.Decided.{lookedHeld, lookedClient, Looked, sight}
 use Rattle.protocol.specs.View.{Setting, Op, View}
 use Rattle.protocol.specs.Message.{Kept as Has}
 use Rattle.protocol.specs.Move.{count, finish, counted, ended, changed}
@@ -27,7 +27,7 @@ use Rattle.promise.specs.Tie.{openAt, Past, Stands, At, opOf, Book, Tie}
 use Rattle.promise.specs.Record.{none-added, ended-added, record-length, record-ended, operations-after, book-end}
 use Rattle.promise.specs.Clients.{stands-on, idle-now}
 use Rattle.promise.specs.Next.{Next}
-use Rattle.promise.specs.Slot.{sight, Found, found}
+use Rattle.promise.specs.Slot.{Found, found}
 use Rattle.promise.specs.Moves.{Moved, moved, moved-on}
 use Rattle.promise.specs.Advance.{advance, book-on, no-note, sends-none}
 

@@ -8,11 +8,12 @@ use borrow.Author.Tests.{eq-eqb, ne-eqb}
 use Rattle.record.specs.declared.Cell.{Cell}
 use Rattle.stamps.specs.declared.Pair.{Pair}
 use Rattle.stamps.specs.Stamp.{stampLess}
+use Rattle.stamps.specs.StampOrder.{Ranked, stampOf, stamp-order}
 use Rattle.method.specs.declared.Goal.{Goal}
 use Rattle.method.specs.declared.Goal.the-variants.{Read, Write}
 use Rattle.protocol.specs.View.{Pair as Seen}
 use Rattle.protocol.specs.Move.{newer, heldOf, chosenOf, raised}
-use Rattle.promise.specs.Setting.{Ranked, settingOf, stampOf, stamp-order, next-stamp}
+use Rattle.promise.specs.Setting.{settingOf, next-stamp}
 use Rattle.method.specs.Method.{Raised, Holds, Written, Chosen}
 use Rattle.method.specs.Method.Raised.{taken, left}
 use Rattle.method.specs.Method.Holds.{first, later}

@@ -13,7 +13,7 @@ use Rattle.rack.specs.declared.Rack.{Rack}
 use Rattle.method.specs.declared.Event.{Event}
 use Rattle.method.specs.declared.Plan.{Plan}
 use Rattle.rack.specs.Places.{partyAt}
-use Rattle.rack.specs.Decided.{lookedHeld, lookedClient, lookedParty, lookedPair, Looked}
+use Rattle.rack.specs.Decided.{lookedHeld, lookedClient, lookedParty, lookedPair, Looked, sight}
 use Rattle.protocol.specs.View.{Setting, View}
 use Rattle.protocol.specs.Message.{Tell as Told}
 use Rattle.protocol.specs.Stays.{tell-true}
@@ -24,7 +24,7 @@ use Rattle.method.specs.Method.Repeats.{none, copy, again}
 use Rattle.promise.specs.Tie.{pairOf, At, Means, opOf, Tie}
 use Rattle.promise.specs.Record.{none-added, record-same}
 use Rattle.promise.specs.Next.{Sends, says-sends, at-still, Next}
-use Rattle.promise.specs.Slot.{sight, Found, found, pairs-same}
+use Rattle.promise.specs.Slot.{Found, found, pairs-same}
 
 module _ (r : Rack) (e : Event) (p : Plan) (v : View) (name : ℕ → ℕ → ℕ) (t : Tie r v name) (l : Looked r e) where
   abbrev S : Setting

@@ -22,7 +22,7 @@ use Rattle.rack.specs.Places.{slotLimit, empty, idle, pairPlace, roomOf, record
 use Rattle.rack.specs.Sound.{owed, soundOf}
 use Rattle.rack.specs.Run.{freshRack, inRack, checked, decided, entriesIn, appliedOf, eventOf, turn, ranOf, runFrom, runOf}
 use Rattle.rack.specs.SoundLaws.{Sound, sound-of}
-use Rattle.rack.specs.Decided.{lookedHeld, lookedClient, Decided, decided-fits, checked-go}
+use Rattle.rack.specs.Decided.{lookedHeld, lookedClient, Decided, decided-fits, checked-go, sight}
 use Rattle.schedule.specs.Stays.{stays, sound-stays}
 use Rattle.protocol.specs.View.{View}
 use Rattle.protocol.specs.Move.{fresh, first}
@@ -32,7 +32,6 @@ use Rattle.method.specs.MethodLaws.{method}
 use Rattle.promise.specs.Tie.{Tie}
 use Rattle.promise.specs.Record.{asked-added, ended-added}
 use Rattle.promise.specs.Next.{Next, tie-next}
-use Rattle.promise.specs.Slot.{sight}
 use Rattle.promise.specs.Quiet.{rests-next, tells-next}
 use Rattle.promise.specs.Taking.{takes-next}
 use Rattle.promise.specs.Hearing.{hears-next, chooses-next}

@@ -11,22 +11,17 @@ use Rattle.method.specs.declared.Held.the-variants.{Full}
 use Rattle.rack.specs.declared.Sizes.{Sizes}
 use Rattle.rack.specs.declared.Rack.{Rack}
 use Rattle.stamps.specs.Stamp.{freshPair}
-use Rattle.method.specs.declared.Sight.{Sight}
 use Rattle.method.specs.declared.Event.{Event}
 use Rattle.method.specs.declared.Plan.{Plan}
 use Rattle.rack.specs.Places.{pairPlace}
 use Rattle.rack.specs.Sound.{bodyFits, heldFits}
 use Rattle.rack.specs.Run.{slotOf, placeIn}
 use Rattle.rack.specs.SoundLaws.{Named, named}
-use Rattle.rack.specs.Decided.{lookedHeld, lookedClient, lookedParty, lookedPlace, lookedPair, Looked}
+use Rattle.rack.specs.Decided.{lookedHeld, lookedClient, lookedPlace, lookedPair, Looked}
 use Rattle.protocol.specs.View.{Setting, View}
 use Rattle.promise.specs.Setting.{settingOf}
 use Rattle.method.specs.Method.{Got}
 use Rattle.promise.specs.Tie.{pairOf, Means, OnWire, InSlot, opOf, Tie}
-
--- what the event sees
-abbrev pub sight : Rack → Event → Sight
-sight r e = record { replicas = r .sizes .replicas; power = r .power; party = lookedParty r e; pair = lookedPair r e }
 
 place-of : (h : Held) (m : Message) → h ≡ Full m → placeIn h ≡ pairPlace (m .replica .0) (m .cell .0)
 unfolding placeIn

@@ -19,7 +19,7 @@ use Rattle.method.specs.declared.Plan.{Plan}
 use Rattle.rack.specs.Places.{partyAt, recordOf}
 use Rattle.rack.specs.Run.{appliedOf}
 use Rattle.rack.specs.SoundLaws.{Sized}
-use Rattle.rack.specs.Decided.{lookedClient, Looked}
+use Rattle.rack.specs.Decided.{lookedClient, Looked, sight}
 use Rattle.protocol.specs.View.{Setting, Op, View}
 use Rattle.protocol.specs.Move.{start, changed}
 use Rattle.promise.specs.Setting.{client-rank, settingOf}
@@ -29,7 +29,7 @@ use Rattle.promise.specs.Record.{asked-added, record-length, record-aske
 use Rattle.promise.specs.Clients.{at-other, stands-on}
 use Rattle.promise.specs.Wire.{named, named-here, named-else}
 use Rattle.promise.specs.Next.{Sends, says-sends, Next}
-use Rattle.promise.specs.Slot.{sight, pairs-same}
+use Rattle.promise.specs.Slot.{pairs-same}
 use Rattle.promise.specs.Moves.{Moved, moved}
 
 module _ (r : Rack) (e : Event) (p : Plan) (v : View) (name : ℕ → ℕ → ℕ) (t : Tie r v name) (l : Looked r e) (z : Sized (r .sizes)) (room : r .count < entryLimit)

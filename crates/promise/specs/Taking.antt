@@ -16,7 +16,7 @@ use Rattle.method.specs.declared.Plan.{Plan}
 use Rattle.rack.specs.Places.{pairPlace}
 use Rattle.rack.specs.Sound.{bodyFits}
 use Rattle.rack.specs.SoundLaws.{Sized}
-use Rattle.rack.specs.Decided.{lookedHeld, lookedClient, lookedParty, lookedPlace, lookedPair, Looked}
+use Rattle.rack.specs.Decided.{lookedHeld, lookedClient, lookedParty, lookedPlace, lookedPair, Looked, sight}
 use Rattle.protocol.specs.View.{Setting, Pair as Seen, View}
 use Rattle.protocol.specs.Message.{Keep as Chose}
 use Rattle.protocol.specs.Move.{Move, take, put, raised, stored, then}
@@ -32,7 +32,7 @@ use Rattle.promise.specs.Pairs.{raised-seen}
 use Rattle.promise.specs.Record.{none-added, record-same}
 use Rattle.promise.specs.Wire.{means-stays}
 use Rattle.promise.specs.Next.{Sends, says-sends, at-still, Next}
-use Rattle.promise.specs.Slot.{sight, Found, found}
+use Rattle.promise.specs.Slot.{Found, found}
 
 module _ (r : Rack) (e : Event) (p : Plan) (v : View) (name : ℕ → ℕ → ℕ) (t : Tie r v name) (l : Looked r e) (z : Sized (r .sizes))
     (h : Takes (sight r e) (lookedClient r e) (lookedHeld r e) p) where

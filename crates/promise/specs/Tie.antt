@@ -13,6 +13,7 @@ use Rattle.record.specs.Record.{entryLimit}
 use Rattle.law.specs.Operation.{Op as Operation, operations}
 use Rattle.law.specs.Order.{In}
 use Rattle.stamps.specs.declared.Pair.{Pair}
+use Rattle.stamps.specs.StampOrder.{stampOf}
 use Rattle.method.specs.declared.Body.{Body}
 use Rattle.method.specs.declared.Body.the-variants.{Ask, Tell, Keep, Kept}
 use Rattle.method.specs.declared.Message.{Message}
@@ -27,7 +28,7 @@ use Rattle.rack.specs.Places.{partyAt, pairAt, heldAt, recordOf}
 use Rattle.protocol.specs.View.{Setting, Pair as Seen, Op, View}
 use Rattle.protocol.specs.Message.{Tell as Told, Keep as Chose, Kept as Has}
 use Rattle.protocol.specs.Move.{Reached}
-use Rattle.promise.specs.Setting.{stampOf, settingOf}
+use Rattle.promise.specs.Setting.{settingOf}
 
 -- ---- pairs and operations
 

@@ -50,6 +50,10 @@ lookedPlace r e = placeIn (lookedHeld r e)
 abbrev pub lookedPair : Rack → Event → Pair
 lookedPair r e = getD (r .pairs) (lookedPlace r e) freshPair
 
+-- all that it looks at
+abbrev pub sight : Rack → Event → Sight
+sight r e = record { replicas = r .sizes .replicas; power = r .power; party = lookedParty r e; pair = lookedPair r e }
+
 pub record Looked (r : Rack) (e : Event) : Type 0 where
   pub slot : slotOf e < slotLimit
   pub client : lookedClient r e < r .sizes .clients
@@ -153,9 +157,6 @@ pub record Decided (r : Rack) (e : Event) (p : Plan) : Type 0 where
   pub room : ones (p .to) ≤ roomOf (r .wire) + freed (p .clear)
 
 -- the plan that passed is the plan for the event
-abbrev sight : Rack → Event → Sight
-sight r e = record { replicas = r .sizes .replicas; power = r .power; party = lookedParty r e; pair = lookedPair r e }
-
 in-go : (t : Bool) (o : Outcome) (p : Plan) → cond t o (No 3) ≡ Go p → (t ≡ true) × (o ≡ Go p)
 in-go true o p e = (refl, e)
 in-go false o p e = absurd (let z : _≡_ {A = ℕ} 0 1 = cc in omega arith)

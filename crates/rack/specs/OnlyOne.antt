@@ -36,7 +36,7 @@ use Rattle.stamps.specs.OnlyOne.{yes-not-no, pairOf}
 use Rattle.method.specs.OnlyOne.{SameOutcome, one-outcome}
 
 -- Every call here but `checked`, `decode` and `made` answers yes or no, or a number: two answers that are both what is stated are the same by `one-answer`
--- of plan's OnlyOne.
+-- of stamps' OnlyOne.
 
 -- ---- decode
 

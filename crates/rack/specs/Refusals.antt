@@ -34,7 +34,7 @@ use Rattle.method.specs.Plan.{started, startIn, startOf, askOf, keepOf, current
 use Rattle.rack.specs.Places.{roomOf}
 use Rattle.rack.specs.Sound.{owed}
 use Rattle.rack.specs.Run.{inRack, noted, freed, checked, decided}
-use Rattle.rack.specs.Decided.{lookedHeld, lookedParty, lookedPair}
+use Rattle.rack.specs.Decided.{lookedHeld, sight}
 
 -- ---- the plan's: 3 to 10, and 12
 
@@ -143,14 +143,11 @@ pub decided-refuses : (r : Rack) (e : Event) (k : ℕ) → decided r e ≡ No k 
 unfolding decided
 decided-refuses r e k d = go (inRack (r .sizes) e) d
   where
-    seen : Sight
-    seen = record { replicas = r .sizes .replicas; power = r .power; party = lookedParty r e; pair = lookedPair r e }
-
-    either-way : (planOf seen (lookedHeld r e) e ≡ No k) ⊎ ((k ≡ 11) ⊎ (k ≡ 13)) → (3 ≤ k) × (k ≤ 13)
-    either-way (inl w) = ⊎-elim (λ (x : (3 ≤ k) × (k ≤ 10)). (x .0, omega arith)) (λ (x : k ≡ 12). (omega arith, omega arith)) (plan-refuses seen (lookedHeld r e) e k w)
+    either-way : (planOf (sight r e) (lookedHeld r e) e ≡ No k) ⊎ ((k ≡ 11) ⊎ (k ≡ 13)) → (3 ≤ k) × (k ≤ 13)
+    either-way (inl w) = ⊎-elim (λ (x : (3 ≤ k) × (k ≤ 10)). (x .0, omega arith)) (λ (x : k ≡ 12). (omega arith, omega arith)) (plan-refuses (sight r e) (lookedHeld r e) e k w)
     either-way (inr (inl w)) = (omega arith, omega arith)
     either-way (inr (inr w)) = (omega arith, omega arith)
 
-    go : (t : Bool) → cond t (checked (planOf seen (lookedHeld r e) e) (r .count + owed r) (roomOf (r .wire))) (No 3) ≡ No k → (3 ≤ k) × (k ≤ 13)
-    go true w = either-way (checked-refuses (planOf seen (lookedHeld r e) e) (r .count + owed r) (roomOf (r .wire)) k w)
+    go : (t : Bool) → cond t (checked (planOf (sight r e) (lookedHeld r e) e) (r .count + owed r) (roomOf (r .wire))) (No 3) ≡ No k → (3 ≤ k) × (k ≤ 13)
+    go true w = either-way (checked-refuses (planOf (sight r e) (lookedHeld r e) e) (r .count + owed r) (roomOf (r .wire)) k w)
     go false w = let x : k ≡ 3 = cc in (omega arith, omega arith)
