@@ -19,28 +19,27 @@ use Rattle.record.specs.Legal.{InRange, Follows, Legal}
 use Rattle.record.specs.Below.{Words}
 use Rattle.law.specs.Steps.{has, put}
 use Rattle.law.specs.Operations.{standingFrom, standing, standing-append, fresh-none, tied, has-same, has-other}
-use Rattle.plan.specs.declared.Message.{Message}
+use Rattle.method.specs.declared.Message.{Message}
 use Rattle.rack.specs.declared.Slot.{Slot}
-use Rattle.plan.specs.declared.Party.{Party}
+use Rattle.method.specs.declared.Party.{Party}
 use Rattle.rack.specs.declared.Line.{Line}
 use Rattle.rack.specs.declared.Sizes.{Sizes}
 use Rattle.rack.specs.declared.Rack.{Rack}
-use Rattle.plan.specs.declared.Event.{Event}
-use Rattle.plan.specs.declared.Event.the-variants.{Unknown}
-use Rattle.plan.specs.declared.Note.{Note}
-use Rattle.plan.specs.declared.Note.the-variants.{Nothing, Asked, Ended}
-use Rattle.plan.specs.declared.Plan.{Plan}
-use Rattle.plan.specs.declared.Outcome.{Outcome}
-use Rattle.plan.specs.declared.Outcome.the-variants.{No, Go}
+use Rattle.method.specs.declared.Event.{Event}
+use Rattle.method.specs.declared.Event.the-variants.{Unknown}
+use Rattle.method.specs.declared.Note.{Note}
+use Rattle.method.specs.declared.Note.the-variants.{Nothing, Asked, Ended}
+use Rattle.method.specs.declared.Plan.{Plan}
+use Rattle.method.specs.declared.Outcome.{Outcome}
+use Rattle.method.specs.declared.Outcome.the-variants.{No, Go}
 use Rattle.rack.specs.declared.Made.{Made}
-use Rattle.plan.specs.Stamp.{freshPair}
-use Rattle.plan.specs.Plan.{Sight, messageOf, planOf}
-use Rattle.plan.specs.Sight.{sightOf}
+use Rattle.stamps.specs.Stamp.{freshPair}
+use Rattle.method.specs.Plan.{messageOf, planOf}
 use Rattle.rack.specs.Places.{slotLimit, empty, full, idle, heldIn, freeAt, roomOf, sentOf, recordOf}
 use Rattle.rack.specs.Sound.{sizesFit, owed, soundOf}
 use Rattle.rack.specs.Run.{freshRack, madeOf, byte, eventOf, slotOf, decided, checked, addressed, cleared, recorded, entriesIn, appliedOf, turn, runFrom, runOf}
 use Rattle.rack.specs.SoundLaws.{Sized, Sound, sound-of}
-use Rattle.rack.specs.Decided.{lookedHeld, lookedClient, lookedParty, lookedPlace, lookedPair, Decided, decided-fits, checked-go}
+use Rattle.rack.specs.Decided.{lookedHeld, lookedClient, lookedParty, lookedPlace, lookedPair, sight, Decided, decided-fits, checked-go}
 use Rattle.rack.specs.Fresh.{made-sound}
 use Rattle.slots.specs.Free.{firstFree}
 use Rattle.quorum.specs.Sets.{membersOf}
@@ -153,10 +152,6 @@ small-stays r e p k before s h =
     }
 
 -- ---- an event that is done
-
--- what it looks at
-abbrev pub sight : Rack → Event → Sight
-sight r e = sightOf (r .sizes .replicas) (r .power) (lookedParty r e) (lookedPair r e)
 
 -- the plan that it went by is the one that is planned for it
 pub decided-plan : (r : Rack) (e : Event) (p : Plan) → soundOf r ≡ true → decided r e ≡ Go p → planOf (sight r e) (lookedHeld r e) e ≡ Go p

@@ -14,10 +14,10 @@ use Rattle.rows.specs.RowLaws.{rows-length}
 use Rattle.rows.specs.Wrote.{sets-append, sets-front}
 use Rattle.rack.specs.declared.Line.{Line}
 use Rattle.rack.specs.declared.Rack.{Rack}
-use Rattle.plan.specs.declared.Event.{Event}
-use Rattle.plan.specs.declared.Note.{Note}
-use Rattle.plan.specs.declared.Note.the-variants.{Nothing, Asked, Ended}
-use Rattle.plan.specs.declared.Plan.{Plan}
+use Rattle.method.specs.declared.Event.{Event}
+use Rattle.method.specs.declared.Note.{Note}
+use Rattle.method.specs.declared.Note.the-variants.{Nothing, Asked, Ended}
+use Rattle.method.specs.declared.Plan.{Plan}
 use Rattle.rack.specs.Places.{recordOf}
 use Rattle.rack.specs.Run.{entriesIn, recorded, appliedOf}
 

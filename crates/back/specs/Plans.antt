@@ -13,32 +13,32 @@ use Rattle.record.specs.declared.Cell.{Cell}
 use Rattle.record.specs.declared.Entry.{Entry}
 use Rattle.record.specs.declared.Entry.the-variants.{ReadAsked, WriteAsked, Told, Done}
 use Rattle.quorum.specs.Sets.{hasReplica, withReplica, asksEnough, keepsEnough}
-use Rattle.plan.specs.declared.Pair.{Pair}
-use Rattle.plan.specs.declared.Body.{Body}
-use Rattle.plan.specs.declared.Body.the-variants.{Ask, Tell, Keep, Kept}
-use Rattle.plan.specs.declared.Message.{Message}
-use Rattle.plan.specs.declared.Held.{Held}
-use Rattle.plan.specs.declared.Held.the-variants.{Empty, Full}
-use Rattle.plan.specs.declared.Goal.{Goal}
-use Rattle.plan.specs.declared.Goal.the-variants.{Read, Write}
-use Rattle.plan.specs.declared.Work.{Work}
-use Rattle.plan.specs.declared.Work.the-variants.{Idle, Asking, Keeping}
-use Rattle.plan.specs.declared.Party.{Party}
+use Rattle.stamps.specs.declared.Pair.{Pair}
+use Rattle.method.specs.declared.Body.{Body}
+use Rattle.method.specs.declared.Body.the-variants.{Ask, Tell, Keep, Kept}
+use Rattle.method.specs.declared.Message.{Message}
+use Rattle.method.specs.declared.Held.{Held}
+use Rattle.method.specs.declared.Held.the-variants.{Empty, Full}
+use Rattle.method.specs.declared.Goal.{Goal}
+use Rattle.method.specs.declared.Goal.the-variants.{Read, Write}
+use Rattle.method.specs.declared.Work.{Work}
+use Rattle.method.specs.declared.Work.the-variants.{Idle, Asking, Keeping}
+use Rattle.method.specs.declared.Party.{Party}
 use Rattle.rack.specs.declared.Sizes.{Sizes}
-use Rattle.plan.specs.declared.Event.{Event}
-use Rattle.plan.specs.declared.Event.the-variants.{StartRead, StartWrite, Deliver, Lose, Copy, Resend, Stop, Off, On, Unknown}
-use Rattle.plan.specs.declared.Note.{Note}
-use Rattle.plan.specs.declared.Note.the-variants.{Nothing, Asked, Ended}
-use Rattle.plan.specs.declared.Plan.{Plan}
-use Rattle.plan.specs.declared.Outcome.{Outcome}
-use Rattle.plan.specs.declared.Outcome.the-variants.{No, Go}
-use Rattle.plan.specs.Stamp.{stampLess, raised}
-use Rattle.plan.specs.Plan.{Sight, usedUp, answered, started, startIn, startOf, askOf, keepOf, current, keepsOf, written, phaseEnds, holds, tellCounts, tellIn, tellOf, lastEntry, keptCounts, keptIn, keptOf, deliverIn, deliverOf, copyOf, resendIn, resendOf, stopOf, powered, offOf, onOf, ofSlot, planOf}
-use Rattle.plan.specs.Sight.{sightOf}
+use Rattle.stamps.specs.Stamp.{stampLess, raised}
+use Rattle.method.specs.declared.Sight.{Sight}
+use Rattle.method.specs.declared.Event.{Event}
+use Rattle.method.specs.declared.Event.the-variants.{StartRead, StartWrite, Deliver, Lose, Copy, Resend, Stop, Off, On, Unknown}
+use Rattle.method.specs.declared.Note.{Note}
+use Rattle.method.specs.declared.Note.the-variants.{Nothing, Asked, Ended}
+use Rattle.method.specs.declared.Plan.{Plan}
+use Rattle.method.specs.declared.Outcome.{Outcome}
+use Rattle.method.specs.declared.Outcome.the-variants.{No, Go}
+use Rattle.method.specs.Plan.{usedUp, answered, started, startIn, startOf, askOf, keepOf, current, keepsOf, written, phaseEnds, holds, tellCounts, tellIn, tellOf, lastEntry, keptCounts, keptIn, keptOf, deliverIn, deliverOf, copyOf, resendIn, resendOf, stopOf, powered, offOf, onOf, ofSlot, planOf}
 use Rattle.rack.specs.Sound.{heldFits}
-use Rattle.plan.specs.About.{clientIn, clientOf}
+use Rattle.method.specs.About.{clientIn, clientOf}
 use Rattle.rack.specs.Run.{inRack}
-use Rattle.plan.specs.Tests.{and-left, and-right}
+use Rattle.method.specs.Tests.{and-left, and-right}
 use Rattle.rack.specs.SoundLaws.{named}
 use Rattle.back.specs.Standing.{openFor, openIn, Within, PairSmall, BodySmall, HeldSmall, GoalSmall, WorkSmall}
 
@@ -129,7 +129,7 @@ holds-small set held q h hq = go (eqb set 0)
 
 module _ (z : Sizes) (power : ℕ) (party : Party) (pair : Pair) (work : WorkSmall (party .work)) (here : PairSmall pair) where
   abbrev seen : Sight
-  seen = sightOf (z .replicas) power party pair
+  seen = record { replicas = z .replicas; power = power; party = party; pair = pair }
 
   -- what the client has open
   abbrev has : ℕ

@@ -12,18 +12,18 @@ use Rattle.record.specs.Record.{entryLimit, fresh}
 use Rattle.record.specs.Legal.{Follows}
 use Rattle.law.specs.Steps.{has}
 use Rattle.law.specs.Operations.{standing}
-use Rattle.plan.specs.declared.Pair.{Pair}
-use Rattle.plan.specs.declared.Body.{Body}
-use Rattle.plan.specs.declared.Body.the-variants.{Ask, Tell, Keep, Kept}
-use Rattle.plan.specs.declared.Held.{Held}
-use Rattle.plan.specs.declared.Held.the-variants.{Empty, Full}
-use Rattle.plan.specs.declared.Goal.{Goal}
-use Rattle.plan.specs.declared.Goal.the-variants.{Read, Write}
-use Rattle.plan.specs.declared.Work.{Work}
-use Rattle.plan.specs.declared.Work.the-variants.{Idle, Asking, Keeping}
+use Rattle.stamps.specs.declared.Pair.{Pair}
+use Rattle.method.specs.declared.Body.{Body}
+use Rattle.method.specs.declared.Body.the-variants.{Ask, Tell, Keep, Kept}
+use Rattle.method.specs.declared.Held.{Held}
+use Rattle.method.specs.declared.Held.the-variants.{Empty, Full}
+use Rattle.method.specs.declared.Goal.{Goal}
+use Rattle.method.specs.declared.Goal.the-variants.{Read, Write}
+use Rattle.method.specs.declared.Work.{Work}
+use Rattle.method.specs.declared.Work.the-variants.{Idle, Asking, Keeping}
 use Rattle.rack.specs.declared.Sizes.{Sizes}
 use Rattle.rack.specs.declared.Rack.{Rack}
-use Rattle.plan.specs.Stamp.{freshPair}
+use Rattle.stamps.specs.Stamp.{freshPair}
 use Rattle.rack.specs.Places.{partyAt, heldAt, recordOf}
 
 -- ---- what is open

@@ -1,8 +1,8 @@
 // The bench sheet's lines that have no star: run on the product's own calls, a line each in the paper's words, and compared with the file `stdout`.
 ghost use Prim.Native.Nat.{_≤_};
 use libc::STDOUT_FILENO;
+use method::Held;
 use number::Number;
-use plan::Held;
 use rack::Rack;
 use rack::Ran;
 

@@ -7,11 +7,11 @@ use lib.Dec.{ltb, eqb}
 use lib.Count.{ones}
 use borrow.Author.Tests.{lt-ltb, le-ltb, eq-eqb, ne-eqb, ltb-true, ltb-false, eqb-true, eqb-false}
 use Rattle.quorum.specs.Laws.{none-count}
-use Rattle.plan.specs.declared.Message.{Message}
-use Rattle.plan.specs.declared.Party.{Party}
-use Rattle.plan.specs.declared.Event.{Event}
-use Rattle.plan.specs.declared.Event.the-variants.{StartRead, StartWrite, Deliver, Lose, Copy, Resend, Stop, Off, On, Unknown}
-use Rattle.plan.specs.declared.Plan.{Plan}
+use Rattle.method.specs.declared.Message.{Message}
+use Rattle.method.specs.declared.Party.{Party}
+use Rattle.method.specs.declared.Event.{Event}
+use Rattle.method.specs.declared.Event.the-variants.{StartRead, StartWrite, Deliver, Lose, Copy, Resend, Stop, Off, On, Unknown}
+use Rattle.method.specs.declared.Plan.{Plan}
 use Rattle.rack.specs.Counts.{sentBy}
 use Rattle.counts.specs.Counts.{isRequest, requestOf, requestsBy, resentBy, costIn, costOf}
 

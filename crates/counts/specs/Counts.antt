@@ -7,17 +7,17 @@ use lib.Dec.{ltb, eqb}
 use Rattle.record.specs.declared.Entry.{Entry}
 use Rattle.record.specs.declared.Entry.the-variants.{ReadAsked, WriteAsked, Told, Done}
 use Rattle.slots.specs.Free.{countFrom}
-use Rattle.plan.specs.declared.Body.{Body}
-use Rattle.plan.specs.declared.Body.the-variants.{Ask, Tell, Keep, Kept}
-use Rattle.plan.specs.declared.Message.{Message}
+use Rattle.method.specs.declared.Body.{Body}
+use Rattle.method.specs.declared.Body.the-variants.{Ask, Tell, Keep, Kept}
+use Rattle.method.specs.declared.Message.{Message}
 use Rattle.rack.specs.declared.Slot.{Slot}
-use Rattle.plan.specs.declared.Work.{Work}
-use Rattle.plan.specs.declared.Work.the-variants.{Idle, Asking, Keeping}
-use Rattle.plan.specs.declared.Party.{Party}
+use Rattle.method.specs.declared.Work.{Work}
+use Rattle.method.specs.declared.Work.the-variants.{Idle, Asking, Keeping}
+use Rattle.method.specs.declared.Party.{Party}
 use Rattle.rack.specs.declared.Rack.{Rack}
-use Rattle.plan.specs.declared.Event.{Event}
-use Rattle.plan.specs.declared.Event.the-variants.{StartRead, StartWrite, Deliver, Lose, Copy, Resend, Stop, Off, On, Unknown}
-use Rattle.plan.specs.declared.Plan.{Plan}
+use Rattle.method.specs.declared.Event.{Event}
+use Rattle.method.specs.declared.Event.the-variants.{StartRead, StartWrite, Deliver, Lose, Copy, Resend, Stop, Off, On, Unknown}
+use Rattle.method.specs.declared.Plan.{Plan}
 use Rattle.rack.specs.Places.{slotLimit, freeAt}
 use Rattle.rack.specs.Run.{runOf}
 use Rattle.rack.specs.Counts.{sentBy, deliveredBy, countOver}

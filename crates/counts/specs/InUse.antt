@@ -8,9 +8,9 @@ use lib.ListN.{length, replicate, length-replicate}
 use Rattle.slots.specs.Free.{digit, countFrom}
 use Rattle.rack.specs.declared.Slot.{Slot}
 use Rattle.rack.specs.declared.Rack.{Rack}
-use Rattle.plan.specs.declared.Event.{Event}
-use Rattle.plan.specs.declared.Plan.{Plan}
-use Rattle.plan.specs.declared.Outcome.the-variants.{Go}
+use Rattle.method.specs.declared.Event.{Event}
+use Rattle.method.specs.declared.Plan.{Plan}
+use Rattle.method.specs.declared.Outcome.the-variants.{Go}
 use Rattle.rack.specs.Places.{empty, freeAt, roomOf}
 use Rattle.rack.specs.Sound.{soundOf}
 use Rattle.rack.specs.Run.{decided, appliedOf, freshRack, madeOf, runOf}

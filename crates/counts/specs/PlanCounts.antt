@@ -11,34 +11,34 @@ use Rattle.record.specs.declared.Cell.{Cell}
 use Rattle.record.specs.declared.Entry.{Entry}
 use Rattle.quorum.specs.Sets.{setBits, hasReplica, withReplica, asksEnough, keepsEnough, everyReplica, others}
 use Rattle.quorum.specs.Laws.{none-count, none-has, with-fresh, every-count}
-use Rattle.plan.specs.declared.Pair.{Pair}
-use Rattle.plan.specs.declared.Body.{Body}
-use Rattle.plan.specs.declared.Body.the-variants.{Ask, Tell, Keep, Kept}
-use Rattle.plan.specs.declared.Message.{Message}
-use Rattle.plan.specs.declared.Held.{Held}
-use Rattle.plan.specs.declared.Held.the-variants.{Empty, Full}
-use Rattle.plan.specs.declared.Goal.{Goal}
-use Rattle.plan.specs.declared.Goal.the-variants.{Read, Write}
-use Rattle.plan.specs.declared.Work.{Work}
-use Rattle.plan.specs.declared.Work.the-variants.{Idle, Asking, Keeping}
-use Rattle.plan.specs.declared.Party.{Party}
+use Rattle.stamps.specs.declared.Pair.{Pair}
+use Rattle.method.specs.declared.Body.{Body}
+use Rattle.method.specs.declared.Body.the-variants.{Ask, Tell, Keep, Kept}
+use Rattle.method.specs.declared.Message.{Message}
+use Rattle.method.specs.declared.Held.{Held}
+use Rattle.method.specs.declared.Held.the-variants.{Empty, Full}
+use Rattle.method.specs.declared.Goal.{Goal}
+use Rattle.method.specs.declared.Goal.the-variants.{Read, Write}
+use Rattle.method.specs.declared.Work.{Work}
+use Rattle.method.specs.declared.Work.the-variants.{Idle, Asking, Keeping}
+use Rattle.method.specs.declared.Party.{Party}
 use Rattle.rack.specs.declared.Sizes.{Sizes}
 use Rattle.rack.specs.declared.Rack.{Rack}
-use Rattle.plan.specs.declared.Event.{Event}
-use Rattle.plan.specs.declared.Event.the-variants.{StartRead, StartWrite, Deliver, Lose, Copy, Resend, Stop, Off, On, Unknown}
-use Rattle.plan.specs.declared.Note.{Note}
-use Rattle.plan.specs.declared.Note.the-variants.{Nothing, Asked, Ended}
-use Rattle.plan.specs.declared.Plan.{Plan}
-use Rattle.plan.specs.declared.Outcome.{Outcome}
-use Rattle.plan.specs.declared.Outcome.the-variants.{No, Go}
-use Rattle.plan.specs.Plan.{Sight, messageOf, partyAt, planned, usedUp, answered, started, startIn, startOf, askOf, keepOf, current, keepsOf, phaseEnds, tellCounts, tellIn, tellOf, lastEntry, keptCounts, keptIn, keptOf, deliverIn, deliverOf, copyOf, resendIn, resendOf, stopOf, powered, offOf, onOf, ofSlot, planOf}
-use Rattle.plan.specs.Sight.{sightOf}
+use Rattle.method.specs.declared.Sight.{Sight}
+use Rattle.method.specs.declared.Event.{Event}
+use Rattle.method.specs.declared.Event.the-variants.{StartRead, StartWrite, Deliver, Lose, Copy, Resend, Stop, Off, On, Unknown}
+use Rattle.method.specs.declared.Note.{Note}
+use Rattle.method.specs.declared.Note.the-variants.{Nothing, Asked, Ended}
+use Rattle.method.specs.declared.Plan.{Plan}
+use Rattle.method.specs.declared.Outcome.{Outcome}
+use Rattle.method.specs.declared.Outcome.the-variants.{No, Go}
+use Rattle.method.specs.Plan.{messageOf, partyAt, planned, usedUp, answered, started, startIn, startOf, askOf, keepOf, current, keepsOf, phaseEnds, tellCounts, tellIn, tellOf, lastEntry, keptCounts, keptIn, keptOf, deliverIn, deliverOf, copyOf, resendIn, resendOf, stopOf, powered, offOf, onOf, ofSlot, planOf}
 use Rattle.rack.specs.Places.{roomOf}
 use Rattle.rack.specs.Sound.{heldFits, owes, owed, soundOf}
-use Rattle.plan.specs.About.{clientIn, clientOf}
+use Rattle.method.specs.About.{clientIn, clientOf}
 use Rattle.rack.specs.Run.{freed, checked, decided}
 use Rattle.rack.specs.SoundLaws.{Sound, sound-of, named}
-use Rattle.rack.specs.Decided.{lookedHeld, lookedClient, lookedParty, lookedPair, checked-go, Decided, decided-fits}
+use Rattle.rack.specs.Decided.{lookedHeld, lookedClient, lookedParty, lookedPair, sight, checked-go, Decided, decided-fits}
 use Rattle.rack.specs.Counts.{sentBy, deliveredBy}
 use Rattle.counts.specs.Costing.{requests-else, requests-own, none-sent, silent, answers, start-cost, phase-cost, same-cost}
 use Rattle.counts.specs.Counts.{copiedBy, lostBy, isRequest, requestsBy, resentBy, costIn, costOf, endsBy}
@@ -83,7 +83,7 @@ OutcomeCounts n client party e (Go p) = PlanCounts n client party e p
 
 module _ (n : ℕ) (few : n ≤ setBits) (power : ℕ) (party : Party) (pair : Pair) where
   abbrev seen : Sight
-  seen = sightOf n power party pair
+  seen = record { replicas = n; power = power; party = party; pair = pair }
 
   -- a branch: both ways
   either : (client : ℕ) (e : Event) (t : Bool) (a b : Outcome) → OutcomeCounts n client party e a → OutcomeCounts n client party e b
@@ -307,7 +307,7 @@ decided-counts r e p h g =
     let s : Sound r = sound-of r h in
     let d : Decided r e p = decided-fits r e p h g in
     let few : r .sizes .replicas ≤ 16 = omega (arith, s .sizes .replicas) in
-    let o = planOf (sightOf (r .sizes .replicas) (r .power) (lookedParty r e) (lookedPair r e)) (lookedHeld r e) e in
+    let o = planOf (sight r e) (lookedHeld r e) e in
     let c : checked o (r .count + owed r) (roomOf (r .wire)) ≡ Go p =
     ap (λ (t : Bool). cond t (checked o (r .count + owed r) (roomOf (r .wire))) (No 3)) (sym (d .inside)) ∙ g in
     subst (OutcomeCounts (r .sizes .replicas) (lookedClient r e) (lookedParty r e) e)

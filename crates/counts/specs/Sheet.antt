@@ -7,11 +7,11 @@ use Rattle.number.specs.Value.{signedOf}
 use Rattle.quorum.specs.Sets.{setBits, hasReplica, withReplica, majority, asksEnough, keepsEnough, everyReplica, within, membersFrom}
 use Rattle.slots.specs.Free.{countFrom, firstFrom}
 use Rattle.rack.specs.declared.Rack.{Rack}
-use Rattle.plan.specs.Stamp.{stampLess, raised}
-use Rattle.plan.specs.Plan.{started, startIn, startOf, askOf, keepOf, current, keepsOf, phaseEnds, holds, tellCounts, tellIn, tellOf, lastEntry, keptCounts, keptIn, keptOf, deliverIn, deliverOf, ofSlot, planOf}
+use Rattle.stamps.specs.Stamp.{stampLess, raised}
+use Rattle.method.specs.Plan.{started, startIn, startOf, askOf, keepOf, current, keepsOf, phaseEnds, holds, tellCounts, tellIn, tellOf, lastEntry, keptCounts, keptIn, keptOf, deliverIn, deliverOf, ofSlot, planOf}
 use Rattle.rack.specs.Places.{freeAt, roomOf, sentOf, recordOf}
 use Rattle.rack.specs.Sound.{allBelow, sizesFit, pairFits, bodyFits, messageFits, heldFits, workFits, owes, owedBy, owedBelow, owed, wireFits, pairsFit, partiesFit, recordFits, soundOf}
-use Rattle.plan.specs.About.{clientIn, clientOf}
+use Rattle.method.specs.About.{clientIn, clientOf}
 use Rattle.rack.specs.Run.{freshRack, byte, eventOf, inRack, slotOf, placeIn, noted, freed, checked, decided, addressed, cleared, recorded, entriesIn, appliedOf, turn, runFrom, runOf}
 use Rattle.rack.specs.Counts.{sentBy, deliveredBy, counted, countOver}
 use Rattle.counts.specs.Counts.{inUse, copiedBy, lostBy, countOf, tallyOf, isRequest, requestOf, requestsBy, endsBy, endsOf}

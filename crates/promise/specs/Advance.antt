@@ -6,9 +6,9 @@ use Rattle.quorum.specs.Sets.{membersOf}
 use Rattle.law.specs.Operation.{operations}
 use Rattle.law.specs.Order.{In}
 use Rattle.rack.specs.declared.Rack.{Rack}
-use Rattle.plan.specs.declared.Event.{Event}
-use Rattle.plan.specs.declared.Note.the-variants.{Nothing}
-use Rattle.plan.specs.declared.Plan.{Plan}
+use Rattle.method.specs.declared.Event.{Event}
+use Rattle.method.specs.declared.Note.the-variants.{Nothing}
+use Rattle.method.specs.declared.Plan.{Plan}
 use Rattle.rack.specs.Places.{partyAt, recordOf}
 use Rattle.rack.specs.Run.{entriesIn, appliedOf}
 use Rattle.rack.specs.Decided.{lookedClient, lookedPair}

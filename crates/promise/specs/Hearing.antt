@@ -6,26 +6,27 @@ use mathlib.Core.Bool.{true}
 use native.Mathlib.Omega.{arith}
 use Rattle.quorum.specs.Sets.{asksEnough, membersOf}
 use Rattle.law.specs.Order.{In}
-use Rattle.plan.specs.declared.Pair.{Pair}
-use Rattle.plan.specs.declared.Body.the-variants.{Tell, Keep}
-use Rattle.plan.specs.declared.Work.{Work}
+use Rattle.stamps.specs.declared.Pair.{Pair}
+use Rattle.stamps.specs.StampOrder.{Ranked}
+use Rattle.method.specs.declared.Body.the-variants.{Tell, Keep}
+use Rattle.method.specs.declared.Work.{Work}
 use Rattle.rack.specs.declared.Rack.{Rack}
-use Rattle.plan.specs.declared.Event.{Event}
-use Rattle.plan.specs.declared.Plan.{Plan}
+use Rattle.method.specs.declared.Event.{Event}
+use Rattle.method.specs.declared.Plan.{Plan}
 use Rattle.rack.specs.Sound.{bodyFits, workFits}
 use Rattle.rack.specs.SoundLaws.{Sized, AskOpen, ask-open}
-use Rattle.rack.specs.Decided.{lookedHeld, lookedClient, Looked}
+use Rattle.rack.specs.Decided.{lookedHeld, lookedClient, Looked, sight}
 use Rattle.protocol.specs.View.{Setting, Op, View}
 use Rattle.protocol.specs.Message.{Tell as Told, Keep as Chose}
 use Rattle.protocol.specs.Move.{hear, choose, heard, keeping, changed}
-use Rattle.promise.specs.Setting.{Ranked, fits-ranked, settingOf, ask-enough}
-use Rattle.plan.specs.Method.{Chosen, Heard, heardSet, Hears, Chooses}
+use Rattle.promise.specs.Setting.{fits-ranked, settingOf, ask-enough}
+use Rattle.method.specs.Method.{Chosen, Heard, heardSet, Hears, Chooses}
 use Rattle.promise.specs.Tie.{pairOf, openWith, openAt, Stands, At, opOf, Tie}
 use Rattle.promise.specs.Pairs.{holds-seen, holds-rank, chosen-seen}
 use Rattle.promise.specs.Record.{none-added}
 use Rattle.promise.specs.Clients.{stands-on}
 use Rattle.promise.specs.Next.{Sends, says-sends, Next}
-use Rattle.promise.specs.Slot.{sight, Found, found}
+use Rattle.promise.specs.Slot.{Found, found}
 use Rattle.promise.specs.Moves.{Moved, moved, moved-on}
 use Rattle.promise.specs.Advance.{advance, book-on, no-note, sends-none}
 

@@ -2,7 +2,7 @@
 use Prim.Native.Nat.{ℕ}
 use mathlib.Core.Path.{_≡_, refl, _∙_, subst}
 use mathlib.Core.Logic.{_≢_}
-use Rattle.plan.specs.declared.Body.{Body}
+use Rattle.method.specs.declared.Body.{Body}
 use Rattle.protocol.specs.View.{Setting, Op, View}
 use Rattle.protocol.specs.Move.{Move, Legal, changed, after, Reached, then}
 use Rattle.protocol.specs.Place.{put-one, put-here}

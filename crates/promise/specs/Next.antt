@@ -10,26 +10,26 @@ use lib.Seq.{getD-set-same, getD-set-other}
 use Rattle.quorum.specs.Sets.{membersOf}
 use Rattle.law.specs.Operation.{operations}
 use Rattle.law.specs.Order.{In}
-use Rattle.plan.specs.declared.Body.{Body}
-use Rattle.plan.specs.declared.Message.{Message}
-use Rattle.plan.specs.declared.Held.{Held}
-use Rattle.plan.specs.declared.Held.the-variants.{Empty, Full}
-use Rattle.plan.specs.declared.Party.{Party}
+use Rattle.method.specs.declared.Body.{Body}
+use Rattle.method.specs.declared.Message.{Message}
+use Rattle.method.specs.declared.Held.{Held}
+use Rattle.method.specs.declared.Held.the-variants.{Empty, Full}
+use Rattle.method.specs.declared.Party.{Party}
 use Rattle.rack.specs.declared.Line.{Line}
 use Rattle.rack.specs.declared.Rack.{Rack}
-use Rattle.plan.specs.declared.Event.{Event}
-use Rattle.plan.specs.declared.Note.{Note}
-use Rattle.plan.specs.declared.Note.the-variants.{Nothing, Asked, Ended}
-use Rattle.plan.specs.declared.Plan.{Plan}
-use Rattle.plan.specs.Stamp.{freshPair}
-use Rattle.plan.specs.Plan.{messageOf}
+use Rattle.stamps.specs.Stamp.{freshPair}
+use Rattle.method.specs.declared.Event.{Event}
+use Rattle.method.specs.declared.Note.{Note}
+use Rattle.method.specs.declared.Note.the-variants.{Nothing, Asked, Ended}
+use Rattle.method.specs.declared.Plan.{Plan}
+use Rattle.method.specs.Plan.{messageOf}
 use Rattle.rack.specs.Places.{idle, partyAt, pairPlace, heldIn, recordOf}
 use Rattle.rack.specs.Run.{slotOf, entriesIn, recorded, addressed, cleared, appliedOf}
 use Rattle.rack.specs.Decided.{lookedClient, lookedParty, lookedPlace}
 use Rattle.protocol.specs.View.{Setting, Op, View}
 use Rattle.protocol.specs.Move.{Reached}
 use Rattle.promise.specs.Setting.{settingOf}
-use Rattle.plan.specs.Method.{Says}
+use Rattle.method.specs.Method.{Says}
 use Rattle.promise.specs.Tie.{pairOf, At, Means, OnWire, InSlot, opOf, Book, Tie}
 use Rattle.promise.specs.Wire.{cleared-all, sent-all, addressed-of}
 

@@ -4,27 +4,27 @@ use mathlib.Core.Path.{_≡_, refl, ap, _∙_, subst}
 use native.Mathlib.Omega.{arith}
 use Rattle.quorum.specs.Sets.{membersOf}
 use Rattle.law.specs.Order.{In}
-use Rattle.plan.specs.declared.Body.{Body}
-use Rattle.plan.specs.declared.Body.the-variants.{Ask, Tell}
-use Rattle.plan.specs.declared.Message.{Message}
-use Rattle.plan.specs.declared.Work.{Work}
-use Rattle.plan.specs.declared.Work.the-variants.{Idle, Asking, Keeping}
+use Rattle.method.specs.declared.Body.{Body}
+use Rattle.method.specs.declared.Body.the-variants.{Ask, Tell}
+use Rattle.method.specs.declared.Message.{Message}
+use Rattle.method.specs.declared.Work.{Work}
+use Rattle.method.specs.declared.Work.the-variants.{Idle, Asking, Keeping}
 use Rattle.rack.specs.declared.Rack.{Rack}
-use Rattle.plan.specs.declared.Event.{Event}
-use Rattle.plan.specs.declared.Plan.{Plan}
+use Rattle.method.specs.declared.Event.{Event}
+use Rattle.method.specs.declared.Plan.{Plan}
 use Rattle.rack.specs.Places.{partyAt}
-use Rattle.rack.specs.Decided.{lookedHeld, lookedClient, lookedParty, lookedPair, Looked}
+use Rattle.rack.specs.Decided.{lookedHeld, lookedClient, lookedParty, lookedPair, Looked, sight}
 use Rattle.protocol.specs.View.{Setting, View}
 use Rattle.protocol.specs.Message.{Tell as Told}
 use Rattle.protocol.specs.Stays.{tell-true}
 use Rattle.protocol.specs.Atomic.{reached-keeps}
 use Rattle.promise.specs.Setting.{settingOf, only, nobody}
-use Rattle.plan.specs.Method.{Request, Repeats, Still, Rests, Tells}
-use Rattle.plan.specs.Method.Repeats.{none, copy, again}
+use Rattle.method.specs.Method.{Request, Repeats, Still, Rests, Tells}
+use Rattle.method.specs.Method.Repeats.{none, copy, again}
 use Rattle.promise.specs.Tie.{pairOf, At, Means, opOf, Tie}
 use Rattle.promise.specs.Record.{none-added, record-same}
 use Rattle.promise.specs.Next.{Sends, says-sends, at-still, Next}
-use Rattle.promise.specs.Slot.{sight, Found, found, pairs-same}
+use Rattle.promise.specs.Slot.{Found, found, pairs-same}
 
 module _ (r : Rack) (e : Event) (p : Plan) (v : View) (name : ℕ → ℕ → ℕ) (t : Tie r v name) (l : Looked r e) where
   abbrev S : Setting

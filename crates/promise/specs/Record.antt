@@ -16,21 +16,21 @@ use Rattle.law.specs.Order.{In}
 use Rattle.law.specs.Lists.{in-next}
 use Rattle.law.specs.Steps.{ending, ending-keeps, ending-other, ending-over}
 use Rattle.law.specs.Operations.{operations-next, numbered}
-use Rattle.plan.specs.declared.Pair.{Pair}
-use Rattle.plan.specs.declared.Goal.{Goal}
-use Rattle.plan.specs.declared.Goal.the-variants.{Read, Write}
+use Rattle.stamps.specs.declared.Pair.{Pair}
+use Rattle.method.specs.declared.Goal.{Goal}
+use Rattle.method.specs.declared.Goal.the-variants.{Read, Write}
 use Rattle.rack.specs.declared.Line.{Line}
 use Rattle.rack.specs.declared.Rack.{Rack}
-use Rattle.plan.specs.declared.Event.{Event}
-use Rattle.plan.specs.declared.Note.{Note}
-use Rattle.plan.specs.declared.Note.the-variants.{Nothing, Asked, Ended}
-use Rattle.plan.specs.declared.Plan.{Plan}
-use Rattle.plan.specs.Stamp.{freshPair}
+use Rattle.stamps.specs.Stamp.{freshPair}
+use Rattle.method.specs.declared.Event.{Event}
+use Rattle.method.specs.declared.Note.{Note}
+use Rattle.method.specs.declared.Note.the-variants.{Nothing, Asked, Ended}
+use Rattle.method.specs.declared.Plan.{Plan}
 use Rattle.rack.specs.Places.{recordOf}
 use Rattle.rack.specs.Run.{recorded, entriesIn, appliedOf}
 use Rattle.protocol.specs.View.{Op}
 use Rattle.protocol.specs.Move.{ended}
-use Rattle.plan.specs.Method.{firstEntry, endEntry}
+use Rattle.method.specs.Method.{firstEntry, endEntry}
 use Rattle.promise.specs.Tie.{Past, openAt, shown, Book}
 
 -- ---- entries of a rack

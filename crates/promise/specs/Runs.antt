@@ -12,27 +12,26 @@ use Rattle.record.specs.Record.{entryLimit}
 use Rattle.law.specs.Operation.{operations, notes}
 use Rattle.rack.specs.declared.Line.{Line}
 use Rattle.rack.specs.declared.Rack.{Rack}
-use Rattle.plan.specs.declared.Event.{Event}
-use Rattle.plan.specs.declared.Plan.{Plan}
-use Rattle.plan.specs.declared.Outcome.{Outcome}
-use Rattle.plan.specs.declared.Outcome.the-variants.{No, Go}
-use Rattle.plan.specs.Stamp.{freshPair}
-use Rattle.plan.specs.Plan.{planOf}
+use Rattle.stamps.specs.Stamp.{freshPair}
+use Rattle.method.specs.declared.Event.{Event}
+use Rattle.method.specs.declared.Plan.{Plan}
+use Rattle.method.specs.declared.Outcome.{Outcome}
+use Rattle.method.specs.declared.Outcome.the-variants.{No, Go}
+use Rattle.method.specs.Plan.{planOf}
 use Rattle.rack.specs.Places.{slotLimit, empty, idle, pairPlace, roomOf, recordOf}
 use Rattle.rack.specs.Sound.{owed, soundOf}
 use Rattle.rack.specs.Run.{freshRack, inRack, checked, decided, entriesIn, appliedOf, eventOf, turn, ranOf, runFrom, runOf}
 use Rattle.rack.specs.SoundLaws.{Sound, sound-of}
-use Rattle.rack.specs.Decided.{lookedHeld, lookedClient, Decided, decided-fits, checked-go}
+use Rattle.rack.specs.Decided.{lookedHeld, lookedClient, Decided, decided-fits, checked-go, sight}
 use Rattle.schedule.specs.Stays.{stays, sound-stays}
 use Rattle.protocol.specs.View.{View}
 use Rattle.protocol.specs.Move.{fresh, first}
-use Rattle.plan.specs.Method.{Does}
-use Rattle.plan.specs.Method.Does.{rests, starts, tells, takes, hears, chooses, counts, ends}
-use Rattle.plan.specs.MethodLaws.{method}
+use Rattle.method.specs.Method.{Does}
+use Rattle.method.specs.Method.Does.{rests, starts, tells, takes, hears, chooses, counts, ends}
+use Rattle.method.specs.MethodLaws.{method}
 use Rattle.promise.specs.Tie.{Tie}
 use Rattle.promise.specs.Record.{asked-added, ended-added}
 use Rattle.promise.specs.Next.{Next, tie-next}
-use Rattle.promise.specs.Slot.{sight}
 use Rattle.promise.specs.Quiet.{rests-next, tells-next}
 use Rattle.promise.specs.Taking.{takes-next}
 use Rattle.promise.specs.Hearing.{hears-next, chooses-next}

@@ -1,42 +1,29 @@
 -- The setting of a rack with n replicas, for the argument of crate protocol: sets of replicas, quorums and stamps with the few laws that it asks for.
--- This file alone knows what they are; the rest of the crate goes by these names.
+-- This file alone knows what sets and quorums are (stamps are numbers by StampOrder.antt of stamps); the rest of the crate goes by these names.
 use Prim.Native.Nat.{ℕ, _+_, _*_, _/_, _%_, _<_}
-use mathlib.Core.Path.{_≡_, refl, sym, _∙_}
+use mathlib.Core.Path.{_≡_, sym, _∙_}
 use mathlib.Core.Logic.{⊎-elim}
-use mathlib.Core.Bool.{Bool, true, false, _||_, _&&_}
+use mathlib.Core.Bool.{Bool, true, false}
 use mathlib.Core.List.{List·Memᴰ}
 use native.Mathlib.Omega.{arith}
-use lib.Dec.{ltb, eqb}
-use borrow.Author.Tests.{lt-ltb, le-ltb, ltb-true, ltb-false, eqb-true, eqb-false}
+use borrow.Author.Tests.{ltb-true}
 use Rattle.quorum.specs.Sets.{hasReplica, withReplica, asksEnough, keepsEnough, within, membersOf}
 use Rattle.quorum.specs.Laws.{within-below, below-within, none-has, with-new, with-below, meet}
 use Rattle.quorum.specs.Members.{members-has}
-use Rattle.plan.specs.declared.Stamp.{Stamp}
-use Rattle.plan.specs.declared.Pair.{Pair}
+use Rattle.stamps.specs.declared.Stamp.{Stamp}
+use Rattle.stamps.specs.declared.Pair.{Pair}
 use Rattle.rack.specs.declared.Sizes.{Sizes}
-use Rattle.plan.specs.Stamp.{stampLess}
+use Rattle.stamps.specs.StampOrder.{stampOf, Rank, Ranked}
 use Rattle.rack.specs.Sound.{pairFits}
 use Rattle.rack.specs.SoundLaws.{Sized}
 use Rattle.protocol.specs.View.{Setting}
-use Rattle.plan.specs.Method.{Follows}
+use Rattle.method.specs.Method.{Follows}
 
--- ---- sets and stamps as numbers
+-- ---- sets, and ranks
 
 -- the set has the replica
 abbrev pub Has : ℕ → ℕ → Type 0
 Has set k = hasReplica set k ≡ true
-
--- a stamp as one number: the rank is a digit, of which there are 256
-abbrev pub stampOf : Stamp → ℕ
-stampOf s = s .number * 256 + s .rank
-
--- a client's number that can be a rank
-abbrev pub Rank : ℕ → Type 0
-Rank c = c < 256
-
--- a stamp whose rank is one
-abbrev pub Ranked : Stamp → Type 0
-Ranked s = Rank (s .rank)
 
 -- in a rack of permitted sizes every client has a rank, and every pair that fits one
 pub client-rank : (z : Sizes) → Sized z → (c : ℕ) → c < z .clients → Rank c
@@ -59,23 +46,6 @@ met n a b (wa, ea) (wb, eb) =
 -- a set of n replicas with one of them more is one
 within-more : (n s k : ℕ) → within n s ≡ true → k < n → within n (withReplica s k) ≡ true
 within-more n s k e h = below-within n (withReplica s k) (with-below n s k (within-below n s e) h)
-
--- stamps compare as these numbers do
-pub stamp-order : (s t : Stamp) → Ranked s → Ranked t → stampLess s t ≡ ltb (stampOf s) (stampOf t)
-unfolding stampLess
-stamp-order s t hs ht = go (ltb (s .number) (t .number)) refl (eqb (s .number) (t .number)) refl (ltb (s .rank) (t .rank)) refl
-  where
-    go : (a : Bool) → ltb (s .number) (t .number) ≡ a → (b : Bool) → eqb (s .number) (t .number) ≡ b → (c : Bool) → ltb (s .rank) (t .rank) ≡ c
-        → (a || (b && c)) ≡ ltb (stampOf s) (stampOf t)
-    go true p b q c u = let h = ltb-true (s .number) (t .number) p in sym (lt-ltb (stampOf s) (stampOf t) (omega arith))
-    go false p true q true u =
-        let h = eqb-true (s .number) (t .number) q in let l = ltb-true (s .rank) (t .rank) u in sym (lt-ltb (stampOf s) (stampOf t) (omega arith))
-    go false p true q false u =
-        let h = eqb-true (s .number) (t .number) q in let l = ltb-false (s .rank) (t .rank) u in sym (le-ltb (stampOf s) (stampOf t) (omega arith))
-    go false p false q c u =
-        let h = ltb-false (s .number) (t .number) p in
-        let d : s .number ≡ t .number → ⊥ = eqb-false (s .number) (t .number) q in
-        sym (le-ltb (stampOf s) (stampOf t) (omega (arith, d)))
 
 -- ---- the setting
 

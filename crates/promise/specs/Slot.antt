@@ -4,30 +4,24 @@ use mathlib.Core.Path.{_≡_, sym, ap, _∙_, subst}
 use mathlib.Core.Bool.{true}
 use lib.ListN.{getD, set}
 use lib.Seq.{set-getD}
-use Rattle.plan.specs.declared.Body.{Body}
-use Rattle.plan.specs.declared.Message.{Message}
-use Rattle.plan.specs.declared.Held.{Held}
-use Rattle.plan.specs.declared.Held.the-variants.{Full}
+use Rattle.method.specs.declared.Body.{Body}
+use Rattle.method.specs.declared.Message.{Message}
+use Rattle.method.specs.declared.Held.{Held}
+use Rattle.method.specs.declared.Held.the-variants.{Full}
 use Rattle.rack.specs.declared.Sizes.{Sizes}
 use Rattle.rack.specs.declared.Rack.{Rack}
-use Rattle.plan.specs.declared.Event.{Event}
-use Rattle.plan.specs.declared.Plan.{Plan}
-use Rattle.plan.specs.Stamp.{freshPair}
-use Rattle.plan.specs.Plan.{Sight}
-use Rattle.plan.specs.Sight.{sightOf}
+use Rattle.stamps.specs.Stamp.{freshPair}
+use Rattle.method.specs.declared.Event.{Event}
+use Rattle.method.specs.declared.Plan.{Plan}
 use Rattle.rack.specs.Places.{pairPlace}
 use Rattle.rack.specs.Sound.{bodyFits, heldFits}
 use Rattle.rack.specs.Run.{slotOf, placeIn}
 use Rattle.rack.specs.SoundLaws.{Named, named}
-use Rattle.rack.specs.Decided.{lookedHeld, lookedClient, lookedParty, lookedPlace, lookedPair, Looked}
+use Rattle.rack.specs.Decided.{lookedHeld, lookedClient, lookedPlace, lookedPair, Looked}
 use Rattle.protocol.specs.View.{Setting, View}
 use Rattle.promise.specs.Setting.{settingOf}
-use Rattle.plan.specs.Method.{Got}
+use Rattle.method.specs.Method.{Got}
 use Rattle.promise.specs.Tie.{pairOf, Means, OnWire, InSlot, opOf, Tie}
-
--- what the event sees
-abbrev pub sight : Rack → Event → Sight
-sight r e = sightOf (r .sizes .replicas) (r .power) (lookedParty r e) (lookedPair r e)
 
 place-of : (h : Held) (m : Message) → h ≡ Full m → placeIn h ≡ pairPlace (m .replica .0) (m .cell .0)
 unfolding placeIn

@@ -10,26 +10,26 @@ use Rattle.quorum.specs.Sets.{membersOf}
 use Rattle.law.specs.Operation.{note, operations}
 use Rattle.law.specs.Order.{In}
 use Rattle.law.specs.Operations.{numbered}
-use Rattle.plan.specs.declared.Body.the-variants.{Ask}
-use Rattle.plan.specs.declared.Message.{Message}
+use Rattle.method.specs.declared.Body.the-variants.{Ask}
+use Rattle.method.specs.declared.Message.{Message}
 use Rattle.rack.specs.declared.Rack.{Rack}
-use Rattle.plan.specs.declared.Event.{Event}
-use Rattle.plan.specs.declared.Plan.{Plan}
-use Rattle.plan.specs.Stamp.{freshPair}
+use Rattle.stamps.specs.Stamp.{freshPair}
+use Rattle.method.specs.declared.Event.{Event}
+use Rattle.method.specs.declared.Plan.{Plan}
 use Rattle.rack.specs.Places.{partyAt, recordOf}
 use Rattle.rack.specs.Run.{appliedOf}
 use Rattle.rack.specs.SoundLaws.{Sized}
-use Rattle.rack.specs.Decided.{lookedClient, Looked}
+use Rattle.rack.specs.Decided.{lookedClient, Looked, sight}
 use Rattle.protocol.specs.View.{Setting, Op, View}
 use Rattle.protocol.specs.Move.{start, changed}
 use Rattle.promise.specs.Setting.{client-rank, settingOf}
-use Rattle.plan.specs.Method.{firstEntry, Starts}
+use Rattle.method.specs.Method.{firstEntry, Starts}
 use Rattle.promise.specs.Tie.{writes, valueOf, openAt, Past, At, Means, opOf, Book, Tie}
 use Rattle.promise.specs.Record.{asked-added, record-length, record-asked, operations-after, begun-below, book-start}
 use Rattle.promise.specs.Clients.{at-other, stands-on}
 use Rattle.promise.specs.Wire.{named, named-here, named-else}
 use Rattle.promise.specs.Next.{Sends, says-sends, Next}
-use Rattle.promise.specs.Slot.{sight, pairs-same}
+use Rattle.promise.specs.Slot.{pairs-same}
 use Rattle.promise.specs.Moves.{Moved, moved}
 
 module _ (r : Rack) (e : Event) (p : Plan) (v : View) (name : ℕ → ℕ → ℕ) (t : Tie r v name) (l : Looked r e) (z : Sized (r .sizes)) (room : r .count < entryLimit)

@@ -7,16 +7,16 @@ use lib.ListN.{getD, set}
 use lib.Seq.{getD-set-same, getD-set-other}
 use Rattle.quorum.specs.Sets.{membersOf}
 use Rattle.law.specs.Order.{In}
-use Rattle.plan.specs.declared.Body.the-variants.{Keep, Kept}
-use Rattle.plan.specs.declared.Message.{Message}
+use Rattle.method.specs.declared.Body.the-variants.{Keep, Kept}
+use Rattle.method.specs.declared.Message.{Message}
 use Rattle.rack.specs.declared.Rack.{Rack}
-use Rattle.plan.specs.declared.Event.{Event}
-use Rattle.plan.specs.declared.Plan.{Plan}
-use Rattle.plan.specs.Stamp.{freshPair}
+use Rattle.stamps.specs.Stamp.{freshPair}
+use Rattle.method.specs.declared.Event.{Event}
+use Rattle.method.specs.declared.Plan.{Plan}
 use Rattle.rack.specs.Places.{pairPlace}
 use Rattle.rack.specs.Sound.{bodyFits}
 use Rattle.rack.specs.SoundLaws.{Sized}
-use Rattle.rack.specs.Decided.{lookedHeld, lookedClient, lookedParty, lookedPlace, lookedPair, Looked}
+use Rattle.rack.specs.Decided.{lookedHeld, lookedClient, lookedParty, lookedPlace, lookedPair, Looked, sight}
 use Rattle.protocol.specs.View.{Setting, Pair as Seen, View}
 use Rattle.protocol.specs.Message.{Keep as Chose}
 use Rattle.protocol.specs.Move.{Move, take, put, raised, stored, then}
@@ -26,13 +26,13 @@ use Rattle.protocol.specs.Steps.{step}
 use Rattle.protocol.specs.Stays.{kept-true}
 use Rattle.protocol.specs.Atomic.{reached-keeps}
 use Rattle.promise.specs.Setting.{fits-ranked, settingOf, only}
-use Rattle.plan.specs.Method.{Takes}
+use Rattle.method.specs.Method.{Takes}
 use Rattle.promise.specs.Tie.{pairOf, opOf, Tie}
 use Rattle.promise.specs.Pairs.{raised-seen}
 use Rattle.promise.specs.Record.{none-added, record-same}
 use Rattle.promise.specs.Wire.{means-stays}
 use Rattle.promise.specs.Next.{Sends, says-sends, at-still, Next}
-use Rattle.promise.specs.Slot.{sight, Found, found}
+use Rattle.promise.specs.Slot.{Found, found}
 
 module _ (r : Rack) (e : Event) (p : Plan) (v : View) (name : ℕ → ℕ → ℕ) (t : Tie r v name) (l : Looked r e) (z : Sized (r .sizes))
     (h : Takes (sight r e) (lookedClient r e) (lookedHeld r e) p) where

@@ -12,22 +12,23 @@ use Rattle.record.specs.declared.Cell.{Cell}
 use Rattle.record.specs.Record.{entryLimit}
 use Rattle.law.specs.Operation.{Op as Operation, operations}
 use Rattle.law.specs.Order.{In}
-use Rattle.plan.specs.declared.Pair.{Pair}
-use Rattle.plan.specs.declared.Body.{Body}
-use Rattle.plan.specs.declared.Body.the-variants.{Ask, Tell, Keep, Kept}
-use Rattle.plan.specs.declared.Message.{Message}
-use Rattle.plan.specs.declared.Held.{Held}
-use Rattle.plan.specs.declared.Held.the-variants.{Empty, Full}
-use Rattle.plan.specs.declared.Goal.{Goal}
-use Rattle.plan.specs.declared.Goal.the-variants.{Read, Write}
-use Rattle.plan.specs.declared.Work.{Work}
-use Rattle.plan.specs.declared.Work.the-variants.{Idle, Asking, Keeping}
+use Rattle.stamps.specs.declared.Pair.{Pair}
+use Rattle.stamps.specs.StampOrder.{stampOf}
+use Rattle.method.specs.declared.Body.{Body}
+use Rattle.method.specs.declared.Body.the-variants.{Ask, Tell, Keep, Kept}
+use Rattle.method.specs.declared.Message.{Message}
+use Rattle.method.specs.declared.Held.{Held}
+use Rattle.method.specs.declared.Held.the-variants.{Empty, Full}
+use Rattle.method.specs.declared.Goal.{Goal}
+use Rattle.method.specs.declared.Goal.the-variants.{Read, Write}
+use Rattle.method.specs.declared.Work.{Work}
+use Rattle.method.specs.declared.Work.the-variants.{Idle, Asking, Keeping}
 use Rattle.rack.specs.declared.Rack.{Rack}
 use Rattle.rack.specs.Places.{partyAt, pairAt, heldAt, recordOf}
 use Rattle.protocol.specs.View.{Setting, Pair as Seen, Op, View}
 use Rattle.protocol.specs.Message.{Tell as Told, Keep as Chose, Kept as Has}
 use Rattle.protocol.specs.Move.{Reached}
-use Rattle.promise.specs.Setting.{stampOf, settingOf}
+use Rattle.promise.specs.Setting.{settingOf}
 
 -- ---- pairs and operations
 

@@ -8,11 +8,11 @@ use native.Mathlib.Omega.{arith}
 use lib.ListN.{set}
 use Rattle.law.specs.Order.{In}
 use Rattle.slots.specs.Free.{firstFree}
-use Rattle.plan.specs.declared.Body.{Body}
-use Rattle.plan.specs.declared.Body.the-variants.{Ask, Tell, Keep, Kept}
-use Rattle.plan.specs.declared.Message.{Message}
+use Rattle.method.specs.declared.Body.{Body}
+use Rattle.method.specs.declared.Body.the-variants.{Ask, Tell, Keep, Kept}
+use Rattle.method.specs.declared.Message.{Message}
 use Rattle.rack.specs.declared.Slot.{Slot}
-use Rattle.plan.specs.Plan.{messageOf}
+use Rattle.method.specs.Plan.{messageOf}
 use Rattle.rack.specs.Places.{empty, full, heldIn, freeAt, sentOf}
 use Rattle.rack.specs.Run.{addressed, cleared}
 use Rattle.schedule.specs.Stays.{set-either}

@@ -1,8 +1,8 @@
 -- What an event means, case by case: its kind, and what it names.
 use Prim.Native.Nat.{ℕ}
 use Rattle.number.specs.Value.{alternatingOf}
-use Rattle.plan.specs.declared.Event.{Event}
-use Rattle.plan.specs.declared.Event.the-variants.{StartRead, StartWrite, Deliver, Lose, Copy, Resend, Stop, Off, On, Unknown}
+use Rattle.method.specs.declared.Event.{Event}
+use Rattle.method.specs.declared.Event.the-variants.{StartRead, StartWrite, Deliver, Lose, Copy, Resend, Stop, Off, On, Unknown}
 
 -- an event's kind, as the first of its four words has it; 9 for what is no event
 unfoldable pub kindIn : Event → ℕ

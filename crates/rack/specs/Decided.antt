@@ -8,27 +8,27 @@ use lib.ListN.{getD}
 use lib.Count.{ones}
 use borrow.Author.Tests.{ltb-true, ltb-false}
 use Rattle.record.specs.Record.{entryLimit}
-use Rattle.plan.specs.declared.Held.{Held}
-use Rattle.plan.specs.declared.Held.the-variants.{Empty, Full}
-use Rattle.plan.specs.declared.Party.{Party}
-use Rattle.plan.specs.declared.Pair.{Pair}
+use Rattle.stamps.specs.declared.Pair.{Pair}
+use Rattle.method.specs.declared.Held.{Held}
+use Rattle.method.specs.declared.Held.the-variants.{Empty, Full}
+use Rattle.method.specs.declared.Party.{Party}
 use Rattle.rack.specs.declared.Sizes.{Sizes}
 use Rattle.rack.specs.declared.Rack.{Rack}
-use Rattle.plan.specs.declared.Event.{Event}
-use Rattle.plan.specs.declared.Event.the-variants.{StartRead, StartWrite, Deliver, Lose, Copy, Resend, Stop, Off, On, Unknown}
-use Rattle.plan.specs.declared.Note.{Note}
-use Rattle.plan.specs.declared.Note.the-variants.{Nothing, Asked, Ended}
-use Rattle.plan.specs.declared.Plan.{Plan}
-use Rattle.plan.specs.declared.Outcome.{Outcome}
-use Rattle.plan.specs.declared.Outcome.the-variants.{No, Go}
-use Rattle.plan.specs.Stamp.{freshPair}
-use Rattle.plan.specs.Plan.{Sight, planOf}
-use Rattle.plan.specs.Sight.{sightOf}
+use Rattle.stamps.specs.Stamp.{freshPair}
+use Rattle.method.specs.declared.Sight.{Sight}
+use Rattle.method.specs.declared.Event.{Event}
+use Rattle.method.specs.declared.Event.the-variants.{StartRead, StartWrite, Deliver, Lose, Copy, Resend, Stop, Off, On, Unknown}
+use Rattle.method.specs.declared.Note.{Note}
+use Rattle.method.specs.declared.Note.the-variants.{Nothing, Asked, Ended}
+use Rattle.method.specs.declared.Plan.{Plan}
+use Rattle.method.specs.declared.Outcome.{Outcome}
+use Rattle.method.specs.declared.Outcome.the-variants.{No, Go}
+use Rattle.method.specs.Plan.{planOf}
 use Rattle.rack.specs.Places.{slotLimit, partyAt, heldAt, roomOf}
 use Rattle.rack.specs.Sound.{pairFits, heldFits, workFits, owedBy, owed, soundOf}
-use Rattle.plan.specs.About.{clientIn, clientOf}
+use Rattle.method.specs.About.{clientIn, clientOf}
 use Rattle.rack.specs.Run.{inRack, slotOf, placeIn, noted, freed, checked, decided, entriesIn}
-use Rattle.plan.specs.Tests.{and-left}
+use Rattle.method.specs.Tests.{and-left}
 use Rattle.rack.specs.SoundLaws.{Sized, named, Sound, sound-of}
 use Rattle.rack.specs.PlanLaws.{keptFor, PlanFits, OutcomeFits, plan-fits}
 
@@ -49,6 +49,10 @@ lookedPlace r e = placeIn (lookedHeld r e)
 
 abbrev pub lookedPair : Rack → Event → Pair
 lookedPair r e = getD (r .pairs) (lookedPlace r e) freshPair
+
+-- all that it looks at
+abbrev pub sight : Rack → Event → Sight
+sight r e = record { replicas = r .sizes .replicas; power = r .power; party = lookedParty r e; pair = lookedPair r e }
 
 pub record Looked (r : Rack) (e : Event) : Type 0 where
   pub slot : slotOf e < slotLimit
@@ -153,9 +157,6 @@ pub record Decided (r : Rack) (e : Event) (p : Plan) : Type 0 where
   pub room : ones (p .to) ≤ roomOf (r .wire) + freed (p .clear)
 
 -- the plan that passed is the plan for the event
-abbrev sight : Rack → Event → Sight
-sight r e = sightOf (r .sizes .replicas) (r .power) (lookedParty r e) (lookedPair r e)
-
 in-go : (t : Bool) (o : Outcome) (p : Plan) → cond t o (No 3) ≡ Go p → (t ≡ true) × (o ≡ Go p)
 in-go true o p e = (refl, e)
 in-go false o p e = absurd (let z : _≡_ {A = ℕ} 0 1 = cc in omega arith)

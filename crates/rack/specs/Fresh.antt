@@ -6,9 +6,9 @@ use native.Mathlib.Omega.{arith}
 use lib.ListN.{getD-replicate}
 use borrow.Author.Tests.{lt-ltb}
 use Rattle.rack.specs.declared.Sizes.{Sizes}
-use Rattle.plan.specs.declared.Party.{Party}
+use Rattle.method.specs.declared.Party.{Party}
 use Rattle.rack.specs.declared.Made.{Made}
-use Rattle.plan.specs.Stamp.{freshPair}
+use Rattle.stamps.specs.Stamp.{freshPair}
 use Rattle.rack.specs.Places.{slotLimit, empty, idle, partyAt, pairAt, pairPlace, heldAt}
 use Rattle.rack.specs.Sound.{sizesFit, pairFits, heldFits, workFits, owes, owedBy, owedBelow, owed, soundOf}
 use Rattle.rack.specs.Run.{freshRack, madeOf}

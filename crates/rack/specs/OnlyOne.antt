@@ -7,35 +7,36 @@ use native.Mathlib.Omega.{arith}
 use lib.Count.{ones}
 use Rattle.record.specs.declared.Entry.the-variants.{Done}
 use Rattle.quorum.specs.Sets.{majority, asksEnough, within}
-use Rattle.plan.specs.declared.Body.the-variants.{Ask, Keep, Kept}
-use Rattle.plan.specs.declared.Message.{Message}
-use Rattle.plan.specs.declared.Held.the-variants.{Empty, Full}
-use Rattle.plan.specs.declared.Goal.the-variants.{Read}
-use Rattle.plan.specs.declared.Work.{Work}
-use Rattle.plan.specs.declared.Work.the-variants.{Asking}
-use Rattle.plan.specs.declared.Party.{Party}
+use Rattle.method.specs.declared.Body.the-variants.{Ask, Keep, Kept}
+use Rattle.method.specs.declared.Message.{Message}
+use Rattle.method.specs.declared.Held.the-variants.{Empty, Full}
+use Rattle.method.specs.declared.Goal.the-variants.{Read}
+use Rattle.method.specs.declared.Work.{Work}
+use Rattle.method.specs.declared.Work.the-variants.{Asking}
+use Rattle.method.specs.declared.Party.{Party}
 use Rattle.rack.specs.declared.Sizes.{Sizes}
-use Rattle.plan.specs.declared.Event.{Event}
-use Rattle.plan.specs.declared.Event.the-variants.{StartRead, Deliver, Stop}
-use Rattle.plan.specs.declared.Note.{Note}
-use Rattle.plan.specs.declared.Note.the-variants.{Nothing, Asked}
-use Rattle.plan.specs.declared.Outcome.{Outcome}
-use Rattle.plan.specs.declared.Outcome.the-variants.{Go}
+use Rattle.method.specs.declared.Event.{Event}
+use Rattle.method.specs.declared.Event.the-variants.{StartRead, Deliver, Stop}
+use Rattle.method.specs.declared.Note.{Note}
+use Rattle.method.specs.declared.Note.the-variants.{Nothing, Asked}
+use Rattle.method.specs.declared.Outcome.{Outcome}
+use Rattle.method.specs.declared.Outcome.the-variants.{Go}
 use Rattle.rack.specs.declared.Made.{Made}
-use Rattle.plan.specs.Stamp.{freshPair}
-use Rattle.plan.specs.Plan.{messageOf, partyAt}
+use Rattle.stamps.specs.Stamp.{freshPair}
+use Rattle.method.specs.Plan.{messageOf, partyAt}
 use Rattle.rack.specs.Places.{idle}
 use Rattle.rack.specs.Sound.{sizesFit, pairFits, bodyFits, messageFits, heldFits, workFits, owes, owedBy, soundOf}
 use Rattle.rack.specs.Owed.{owedIn}
-use Rattle.plan.specs.About.{clientIn, clientOf}
+use Rattle.method.specs.About.{clientIn, clientOf}
 use Rattle.rack.specs.Run.{freshRack, madeOf, byte, eventOf, inRack, slotOf, placeIn, noted, freed, checked}
 use Rattle.rack.specs.Fresh.{fresh-sound}
-use Rattle.plan.specs.Answers.{refusalIn}
+use Rattle.method.specs.Answers.{refusalIn}
 use Rattle.rack.specs.Answers.{kindIn, firstIn, cellIn, valueIn}
-use Rattle.plan.specs.OnlyOne.{yes-not-no, pairOf, SameOutcome, one-outcome}
+use Rattle.stamps.specs.OnlyOne.{yes-not-no, pairOf}
+use Rattle.method.specs.OnlyOne.{SameOutcome, one-outcome}
 
 -- Every call here but `checked`, `decode` and `made` answers yes or no, or a number: two answers that are both what is stated are the same by `one-answer`
--- of plan's OnlyOne.
+-- of stamps' OnlyOne.
 
 -- ---- decode
 

@@ -8,9 +8,9 @@ use lib.Dec.{eqb, ltb}
 use lib.ListN.{getD, set, length}
 use lib.Seq.{getD-set-same, getD-set-other}
 use borrow.Author.Tests.{eqb-true, eqb-false, ltb-true, ltb-false}
-use Rattle.plan.specs.declared.Work.{Work}
-use Rattle.plan.specs.declared.Work.the-variants.{Idle, Asking, Keeping}
-use Rattle.plan.specs.declared.Party.{Party}
+use Rattle.method.specs.declared.Work.{Work}
+use Rattle.method.specs.declared.Work.the-variants.{Idle, Asking, Keeping}
+use Rattle.method.specs.declared.Party.{Party}
 use Rattle.rack.specs.declared.Rack.{Rack}
 use Rattle.rack.specs.Places.{idle}
 use Rattle.rack.specs.Sound.{owes, owedBy, owedBelow, owed}

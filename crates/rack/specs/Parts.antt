@@ -4,7 +4,7 @@ use mathlib.Core.Bool.{Bool, not, _&&_, _||_}
 use lib.Dec.{ltb, eqb}
 use Rattle.record.specs.declared.Cell.{Cell}
 use Rattle.quorum.specs.Sets.{within, asksEnough, keepsEnough}
-use Rattle.plan.specs.declared.Pair.{Pair}
+use Rattle.stamps.specs.declared.Pair.{Pair}
 use Rattle.rack.specs.declared.Sizes.{Sizes}
 use Rattle.rack.specs.Sound.{pairFits}
 

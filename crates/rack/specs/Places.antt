@@ -5,16 +5,16 @@ use mathlib.Core.List.{List, [], _∷_, map}
 use lib.ListN.{getD, set, take}
 use Rattle.record.specs.declared.Entry.{Entry}
 use Rattle.slots.specs.Free.{countFree, firstFree}
-use Rattle.plan.specs.declared.Pair.{Pair}
-use Rattle.plan.specs.declared.Message.{Message}
-use Rattle.plan.specs.declared.Held.{Held}
-use Rattle.plan.specs.declared.Held.the-variants.{Empty, Full}
+use Rattle.stamps.specs.declared.Pair.{Pair}
+use Rattle.method.specs.declared.Message.{Message}
+use Rattle.method.specs.declared.Held.{Held}
+use Rattle.method.specs.declared.Held.the-variants.{Empty, Full}
 use Rattle.rack.specs.declared.Slot.{Slot}
-use Rattle.plan.specs.declared.Work.the-variants.{Idle}
-use Rattle.plan.specs.declared.Party.{Party}
+use Rattle.method.specs.declared.Work.the-variants.{Idle}
+use Rattle.method.specs.declared.Party.{Party}
 use Rattle.rack.specs.declared.Line.{Line}
 use Rattle.rack.specs.declared.Rack.{Rack}
-use Rattle.plan.specs.Stamp.{freshPair}
+use Rattle.stamps.specs.Stamp.{freshPair}
 
 -- the wire has 256 slots
 abbrev pub slotLimit : ℕ

@@ -11,30 +11,30 @@ use Rattle.record.specs.declared.Cell.{Cell}
 use Rattle.record.specs.declared.Entry.{Entry}
 use Rattle.record.specs.Record.{entryLimit}
 use Rattle.quorum.specs.Sets.{hasReplica, withReplica, asksEnough, keepsEnough}
-use Rattle.plan.specs.declared.Pair.{Pair}
-use Rattle.plan.specs.declared.Body.{Body}
-use Rattle.plan.specs.declared.Body.the-variants.{Ask, Tell, Keep, Kept}
-use Rattle.plan.specs.declared.Message.{Message}
-use Rattle.plan.specs.declared.Held.{Held}
-use Rattle.plan.specs.declared.Held.the-variants.{Empty, Full}
-use Rattle.plan.specs.declared.Goal.{Goal}
-use Rattle.plan.specs.declared.Goal.the-variants.{Read, Write}
-use Rattle.plan.specs.declared.Work.{Work}
-use Rattle.plan.specs.declared.Work.the-variants.{Idle, Asking, Keeping}
+use Rattle.stamps.specs.declared.Pair.{Pair}
+use Rattle.method.specs.declared.Body.{Body}
+use Rattle.method.specs.declared.Body.the-variants.{Ask, Tell, Keep, Kept}
+use Rattle.method.specs.declared.Message.{Message}
+use Rattle.method.specs.declared.Held.{Held}
+use Rattle.method.specs.declared.Held.the-variants.{Empty, Full}
+use Rattle.method.specs.declared.Goal.{Goal}
+use Rattle.method.specs.declared.Goal.the-variants.{Read, Write}
+use Rattle.method.specs.declared.Work.{Work}
+use Rattle.method.specs.declared.Work.the-variants.{Idle, Asking, Keeping}
 use Rattle.rack.specs.declared.Rack.{Rack}
-use Rattle.plan.specs.declared.Event.{Event}
-use Rattle.plan.specs.declared.Event.the-variants.{StartRead, StartWrite, Deliver, Lose, Copy, Resend, Stop, Off, On, Unknown}
-use Rattle.plan.specs.declared.Note.{Note}
-use Rattle.plan.specs.declared.Note.the-variants.{Nothing, Asked, Ended}
-use Rattle.plan.specs.declared.Plan.{Plan}
-use Rattle.plan.specs.declared.Outcome.{Outcome}
-use Rattle.plan.specs.declared.Outcome.the-variants.{No, Go}
-use Rattle.plan.specs.Plan.{Sight, started, startIn, startOf, askOf, keepOf, current, keepsOf, phaseEnds, holds, tellCounts, tellIn, tellOf, keptCounts, keptIn, keptOf, deliverIn, deliverOf, copyOf, resendIn, resendOf, stopOf, powered, offOf, onOf, ofSlot, planOf}
+use Rattle.method.specs.declared.Sight.{Sight}
+use Rattle.method.specs.declared.Event.{Event}
+use Rattle.method.specs.declared.Event.the-variants.{StartRead, StartWrite, Deliver, Lose, Copy, Resend, Stop, Off, On, Unknown}
+use Rattle.method.specs.declared.Note.{Note}
+use Rattle.method.specs.declared.Note.the-variants.{Nothing, Asked, Ended}
+use Rattle.method.specs.declared.Plan.{Plan}
+use Rattle.method.specs.declared.Outcome.{Outcome}
+use Rattle.method.specs.declared.Outcome.the-variants.{No, Go}
+use Rattle.method.specs.Plan.{started, startIn, startOf, askOf, keepOf, current, keepsOf, phaseEnds, holds, tellCounts, tellIn, tellOf, keptCounts, keptIn, keptOf, deliverIn, deliverOf, copyOf, resendIn, resendOf, stopOf, powered, offOf, onOf, ofSlot, planOf}
 use Rattle.rack.specs.Places.{roomOf}
 use Rattle.rack.specs.Sound.{owed}
 use Rattle.rack.specs.Run.{inRack, noted, freed, checked, decided}
-use Rattle.rack.specs.Decided.{lookedHeld, lookedParty, lookedPair}
-use Rattle.plan.specs.Sight.{sightOf}
+use Rattle.rack.specs.Decided.{lookedHeld, sight}
 
 -- ---- the plan's: 3 to 10, and 12
 
@@ -143,14 +143,11 @@ pub decided-refuses : (r : Rack) (e : Event) (k : ℕ) → decided r e ≡ No k 
 unfolding decided
 decided-refuses r e k d = go (inRack (r .sizes) e) d
   where
-    seen : Sight
-    seen = sightOf (r .sizes .replicas) (r .power) (lookedParty r e) (lookedPair r e)
-
-    either-way : (planOf seen (lookedHeld r e) e ≡ No k) ⊎ ((k ≡ 11) ⊎ (k ≡ 13)) → (3 ≤ k) × (k ≤ 13)
-    either-way (inl w) = ⊎-elim (λ (x : (3 ≤ k) × (k ≤ 10)). (x .0, omega arith)) (λ (x : k ≡ 12). (omega arith, omega arith)) (plan-refuses seen (lookedHeld r e) e k w)
+    either-way : (planOf (sight r e) (lookedHeld r e) e ≡ No k) ⊎ ((k ≡ 11) ⊎ (k ≡ 13)) → (3 ≤ k) × (k ≤ 13)
+    either-way (inl w) = ⊎-elim (λ (x : (3 ≤ k) × (k ≤ 10)). (x .0, omega arith)) (λ (x : k ≡ 12). (omega arith, omega arith)) (plan-refuses (sight r e) (lookedHeld r e) e k w)
     either-way (inr (inl w)) = (omega arith, omega arith)
     either-way (inr (inr w)) = (omega arith, omega arith)
 
-    go : (t : Bool) → cond t (checked (planOf seen (lookedHeld r e) e) (r .count + owed r) (roomOf (r .wire))) (No 3) ≡ No k → (3 ≤ k) × (k ≤ 13)
-    go true w = either-way (checked-refuses (planOf seen (lookedHeld r e) e) (r .count + owed r) (roomOf (r .wire)) k w)
+    go : (t : Bool) → cond t (checked (planOf (sight r e) (lookedHeld r e) e) (r .count + owed r) (roomOf (r .wire))) (No 3) ≡ No k → (3 ≤ k) × (k ≤ 13)
+    go true w = either-way (checked-refuses (planOf (sight r e) (lookedHeld r e) e) (r .count + owed r) (roomOf (r .wire)) k w)
     go false w = let x : k ≡ 3 = cc in (omega arith, omega arith)

@@ -9,15 +9,15 @@ use borrow.Author.Tests.{lt-ltb, ltb-true, le-leb, leb-true, eqb-true, eq-eqb, n
 use Rattle.record.specs.Record.{entryLimit}
 use Rattle.record.specs.declared.Cell.{Cell}
 use Rattle.quorum.specs.Sets.{within, asksEnough, keepsEnough}
-use Rattle.plan.specs.declared.Pair.{Pair}
-use Rattle.plan.specs.declared.Message.{Message}
-use Rattle.plan.specs.declared.Goal.{Goal}
-use Rattle.plan.specs.declared.Work.the-variants.{Asking, Keeping}
+use Rattle.stamps.specs.declared.Pair.{Pair}
+use Rattle.method.specs.declared.Message.{Message}
+use Rattle.method.specs.declared.Goal.{Goal}
+use Rattle.method.specs.declared.Work.the-variants.{Asking, Keeping}
 use Rattle.rack.specs.declared.Sizes.{Sizes}
 use Rattle.rack.specs.declared.Rack.{Rack}
 use Rattle.rack.specs.Places.{slotLimit, partyAt, pairAt, heldAt}
 use Rattle.rack.specs.Sound.{allBelow, sizesFit, pairFits, bodyFits, messageFits, heldFits, workFits, owed, wireFits, pairsFit, partiesFit, recordFits, soundOf}
-use Rattle.plan.specs.Tests.{and-left, and-right, and-true, or-cases, or-left, or-right}
+use Rattle.method.specs.Tests.{and-left, and-right, and-true, or-cases, or-left, or-right}
 use Rattle.rack.specs.Tests.{all-at, all-of}
 
 -- ---- sizes

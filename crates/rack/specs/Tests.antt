@@ -5,7 +5,7 @@ use mathlib.Core.Bool.{Bool, true, false, _&&_}
 use native.Mathlib.Omega.{arith}
 use lib.Dec.{eqb}
 use borrow.Author.Tests.{eqb-true, eqb-false}
-use Rattle.plan.specs.Tests.{and-left, and-right, and-true}
+use Rattle.method.specs.Tests.{and-left, and-right, and-true}
 use Rattle.rack.specs.Sound.{allBelow}
 
 -- each number below n passes

@@ -3,10 +3,10 @@ pub mod events;
 pub mod maker;
 pub mod soundness;
 
-use plan::Held;
-use plan::Pair;
-use plan::Party;
+use method::Held;
+use method::Party;
 use record::Entry;
+use stamps::Pair;
 
 // A slot of the wire.
 pub struct Slot {

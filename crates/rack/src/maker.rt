@@ -8,12 +8,12 @@ use crate::Rack;
 use crate::Sizes;
 use crate::Slot;
 use crate::soundness::sizes_in;
-use plan::Held;
-use plan::Party;
-use plan::Work;
-use plan::stamps::fresh_pair;
+use method::Held;
+use method::Party;
+use method::Work;
 use record::Client;
 use record::Entry;
+use stamps::fresh_pair;
 
 // A client that has done nothing yet.
 fn idle() -> Party

@@ -8,13 +8,13 @@ ghost use Rattle.rack.specs.Parts.{toldFits, askFits, keepFits};
 ghost use Rattle.rack.specs.Sound.{allBelow, sizesFit, pairFits, bodyFits, messageFits, heldFits, workFits, owes, owedBy, owed, wireFits, pairsFit, partiesFit, recordFits, soundOf};
 use crate::Rack;
 use crate::Sizes;
-use plan::Body;
-use plan::Held;
-use plan::Message;
-use plan::Pair;
-use plan::Party;
-use plan::Work;
+use method::Body;
+use method::Held;
+use method::Message;
+use method::Party;
+use method::Work;
 use record::Cell;
+use stamps::Pair;
 
 // 1 to 15 replicas, 1 to 8 clients and 1 to 16 cells.
 pub fn sizes_in(replicas: u32, clients: u32, cells: u32) -> bool

@@ -14,21 +14,21 @@ use Rattle.slots.specs.Words.{Tied}
 use Rattle.quorum.specs.Sets.{membersOf}
 use Rattle.quorum.specs.Laws.{within-below}
 use Rattle.quorum.specs.Members.{members-count}
-use Rattle.plan.specs.declared.Message.{Message}
+use Rattle.method.specs.declared.Message.{Message}
 use Rattle.rack.specs.declared.Slot.{Slot}
 use Rattle.rack.specs.declared.Rack.{Rack}
-use Rattle.plan.specs.declared.Event.{Event}
-use Rattle.plan.specs.declared.Note.{Note}
-use Rattle.plan.specs.declared.Note.the-variants.{Nothing, Asked, Ended}
-use Rattle.plan.specs.declared.Plan.{Plan}
-use Rattle.plan.specs.declared.Outcome.{Outcome}
-use Rattle.plan.specs.declared.Outcome.the-variants.{No, Go}
-use Rattle.plan.specs.Stamp.{freshPair}
-use Rattle.plan.specs.Plan.{planOf}
+use Rattle.stamps.specs.Stamp.{freshPair}
+use Rattle.method.specs.declared.Event.{Event}
+use Rattle.method.specs.declared.Note.{Note}
+use Rattle.method.specs.declared.Note.the-variants.{Nothing, Asked, Ended}
+use Rattle.method.specs.declared.Plan.{Plan}
+use Rattle.method.specs.declared.Outcome.{Outcome}
+use Rattle.method.specs.declared.Outcome.the-variants.{No, Go}
+use Rattle.method.specs.Plan.{planOf}
 use Rattle.rack.specs.Places.{empty, idle, heldIn, freeAt, roomOf, sentOf}
 use Rattle.rack.specs.Sound.{soundOf}
 use Rattle.rack.specs.Owed.{owedIn, owed-in}
-use Rattle.plan.specs.About.{clientOf}
+use Rattle.method.specs.About.{clientOf}
 use Rattle.rack.specs.Run.{inRack, slotOf, placeIn, freed, checked, decided, addressed, cleared, recorded, entriesIn, appliedOf, turn, ranOf, runFrom}
 use Rattle.rack.specs.SoundLaws.{sound-of}
 use Rattle.rack.specs.Decided.{lookedClient, lookedPlace, Looked, looked, Decided, decided-fits}

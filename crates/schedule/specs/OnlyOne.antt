@@ -10,10 +10,10 @@ use Rattle.quorum.specs.Sets.{setBits, hasReplica, everyReplica, membersFrom}
 use Rattle.slots.specs.Free.{countFrom, firstFrom}
 use Rattle.rack.specs.declared.Rack.{Rack}
 use Rattle.rack.specs.declared.Ran.{Ran}
-use Rattle.plan.specs.Plan.{started, startIn, startOf, ofSlot, planOf}
+use Rattle.method.specs.Plan.{started, startIn, startOf, ofSlot, planOf}
 use Rattle.rack.specs.Places.{freeAt, roomOf, sentOf}
 use Rattle.rack.specs.Sound.{sizesFit, owes, owedBy, owedBelow, owed}
-use Rattle.plan.specs.About.{clientIn, clientOf}
+use Rattle.method.specs.About.{clientIn, clientOf}
 use Rattle.rack.specs.Run.{freshRack, byte, eventOf, inRack, slotOf, placeIn, noted, freed, checked, decided, addressed, cleared, recorded, entriesIn, appliedOf, turn, ranOf, runFrom, runOf}
 use Rattle.rack.specs.Fresh.{fresh-sound}
 use Rattle.schedule.specs.Steps.{run-steps, sound-from}

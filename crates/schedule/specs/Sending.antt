@@ -14,10 +14,10 @@ use Rattle.slots.specs.Laws.{taken-here, taken-else, given-here, given-else, co
 use Rattle.slots.specs.Words.{Tied, Took}
 use Rattle.slots.specs.Finding.{tied-same}
 use Rattle.slots.specs.Upto.{upTo, upto-next, upto-all}
-use Rattle.plan.specs.declared.Message.{Message}
+use Rattle.method.specs.declared.Message.{Message}
 use Rattle.rack.specs.declared.Slot.{Slot}
 use Rattle.rack.specs.Places.{empty, full, heldIn, isEmpty, freeAt, roomOf, sentOf}
-use Rattle.plan.specs.Plan.{messageOf}
+use Rattle.method.specs.Plan.{messageOf}
 use Rattle.rack.specs.Run.{freed, cleared, addressed}
 use Rattle.quorum.specs.Sets.{membersOf}
 use Rattle.schedule.specs.Members.{members-next, members-none, ones-rest}

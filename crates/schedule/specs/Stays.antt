@@ -10,17 +10,17 @@ use lib.Seq.{getD-set-same, getD-set-other, set-out}
 use borrow.Author.Tests.{ltb-true, ltb-false, eqb-true, eqb-false}
 use Rattle.quorum.specs.Sets.{hasReplica, keepIf, membersFrom, membersOf}
 use Rattle.slots.specs.Free.{firstFree}
-use Rattle.plan.specs.declared.Pair.{Pair}
-use Rattle.plan.specs.declared.Message.{Message}
+use Rattle.stamps.specs.declared.Pair.{Pair}
+use Rattle.method.specs.declared.Message.{Message}
 use Rattle.rack.specs.declared.Slot.{Slot}
-use Rattle.plan.specs.declared.Party.{Party}
+use Rattle.method.specs.declared.Party.{Party}
 use Rattle.rack.specs.declared.Sizes.{Sizes}
 use Rattle.rack.specs.declared.Rack.{Rack}
-use Rattle.plan.specs.declared.Event.{Event}
-use Rattle.plan.specs.declared.Plan.{Plan}
-use Rattle.plan.specs.declared.Outcome.the-variants.{Go}
-use Rattle.plan.specs.Stamp.{freshPair}
-use Rattle.plan.specs.Plan.{messageOf}
+use Rattle.stamps.specs.Stamp.{freshPair}
+use Rattle.method.specs.declared.Event.{Event}
+use Rattle.method.specs.declared.Plan.{Plan}
+use Rattle.method.specs.declared.Outcome.the-variants.{Go}
+use Rattle.method.specs.Plan.{messageOf}
 use Rattle.rack.specs.Places.{empty, full, idle, pairPlace, heldIn, freeAt, sentOf}
 use Rattle.rack.specs.Sound.{pairFits, messageFits, heldFits, workFits, owes, owedBy, owed, soundOf}
 use Rattle.rack.specs.Run.{slotOf, decided, addressed, cleared, entriesIn, appliedOf}

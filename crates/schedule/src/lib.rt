@@ -12,12 +12,13 @@ ghost use Rattle.rack.specs.Run.{freed, ranOf, runFrom, runOf};
 ghost use Rattle.schedule.specs.Steps.{eventAt};
 ghost use Rattle.schedule.specs.Sending.{slotAfter, messageTo};
 ghost use Rattle.schedule.specs.Loop.{Most};
-use plan::Event;
-use plan::Held;
-use plan::Message;
-use plan::Note;
-use plan::Outcome;
-use plan::planning::plan;
+use method::Event;
+use method::Held;
+use method::Message;
+use method::Note;
+use method::Outcome;
+use method::Sight;
+use plan::plan;
 use rack::Line;
 use rack::Rack;
 use rack::Ran;
@@ -191,7 +192,13 @@ fn go_on(mut r: Rack, start: Start, allowance: usize, events: &[u32]) -> Ran
         let a = place_in(held);
         let party = r.parties[c];
         let pair = r.pairs[a];
-        let planned = plan(sizes.replicas, r.power, party, pair, held, event);
+        let sight = Sight {
+            replicas: sizes.replicas,
+            power: r.power,
+            party: party,
+            pair: pair,
+        };
+        let planned = plan(sight, held, event);
         let parties = r.parties;
         let outcome = checked(planned, r.count, parties, sizes.clients, room);
         match outcome {

@@ -13,16 +13,16 @@ use Rattle.law.specs.Sheet.{reads, writes, told, done}
 use Rattle.verdict.specs.declared.Verdict.{Verdict}
 use Rattle.verdict.specs.declared.Verdict.the-variants.{Lawful as saysLawful, Unlawful as saysUnlawful}
 use Rattle.verdict.specs.Verdict.{takenFor, Judges}
-use Rattle.plan.specs.declared.Pair.{Pair}
-use Rattle.plan.specs.declared.Body.{Body}
-use Rattle.plan.specs.declared.Body.the-variants.{Ask, Keep}
-use Rattle.plan.specs.declared.Held.{Held}
-use Rattle.plan.specs.declared.Held.the-variants.{Empty, Full}
-use Rattle.plan.specs.declared.Work.the-variants.{Idle}
+use Rattle.stamps.specs.declared.Pair.{Pair}
+use Rattle.method.specs.declared.Body.{Body}
+use Rattle.method.specs.declared.Body.the-variants.{Ask, Keep}
+use Rattle.method.specs.declared.Held.{Held}
+use Rattle.method.specs.declared.Held.the-variants.{Empty, Full}
+use Rattle.method.specs.declared.Work.the-variants.{Idle}
 use Rattle.rack.specs.declared.Rack.{Rack}
 use Rattle.rack.specs.declared.Ran.{Ran}
-use Rattle.plan.specs.Stamp.{freshPair}
-use Rattle.plan.specs.Plan.{messageOf}
+use Rattle.stamps.specs.Stamp.{freshPair}
+use Rattle.method.specs.Plan.{messageOf}
 use Rattle.rack.specs.Places.{partyAt, pairAt, heldAt, roomOf, recordOf as recordIn}
 use Rattle.rack.specs.Run.{freshRack, runOf}
 use Rattle.rack.specs.Counts.{sentBy, deliveredBy, countOver}

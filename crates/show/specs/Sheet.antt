@@ -8,11 +8,11 @@ use lib.IntN.{pos, negsuc}
 use Rattle.text.specs.Text.{digitsOf, valueText, Printed}
 use Rattle.text.specs.Sheet.{only-one}
 use Rattle.quorum.specs.Sets.{hasReplica}
-use Rattle.plan.specs.declared.Pair.{Pair}
-use Rattle.plan.specs.declared.Body.the-variants.{Ask, Keep}
-use Rattle.plan.specs.declared.Held.the-variants.{Full}
-use Rattle.plan.specs.declared.Goal.the-variants.{Read, Write}
-use Rattle.plan.specs.declared.Work.the-variants.{Idle, Asking, Keeping}
+use Rattle.stamps.specs.declared.Pair.{Pair}
+use Rattle.method.specs.declared.Body.the-variants.{Ask, Keep}
+use Rattle.method.specs.declared.Held.the-variants.{Full}
+use Rattle.method.specs.declared.Goal.the-variants.{Read, Write}
+use Rattle.method.specs.declared.Work.the-variants.{Idle, Asking, Keeping}
 use Rattle.rack.specs.declared.Ran.{Ran}
 use Rattle.show.specs.Lines.{eachBelow, slotLine, clientLine, sizesLine, ranText, faultLine}
 

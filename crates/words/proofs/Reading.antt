@@ -9,7 +9,7 @@ use lib.ListN.{length, set, drop, length-append, length-drop, drop-of-length-le,
 use lib.Seq.{drop-cons, set-at, append-snoc}
 use borrow.Author.Tests.{lt-ltb, le-ltb, ltb-true}
 use Rattle.rack.specs.Sound.{allBelow}
-use Rattle.plan.specs.Tests.{and-left, and-right}
+use Rattle.method.specs.Tests.{and-left, and-right}
 use Rattle.words.specs.Layout.{entryPlace, word, firsts}
 use Rattle.words.specs.Firsts.{firsts-long}
 use Rattle.words.specs.Reading.{partyKnown, messageKnown, lineKnown, countOf, countIn}

@@ -6,14 +6,14 @@ use native.Mathlib.Omega.{arith}
 use lib.ListN.{length, getD, set, take}
 use lib.Seq.{sets, length-sets, take-suc, take-all, length-take-le}
 use Rattle.record.specs.declared.Cell.{Cell}
-use Rattle.plan.specs.declared.Goal.{Goal}
-use Rattle.plan.specs.declared.Held.the-variants.{Full}
-use Rattle.plan.specs.declared.Message.{Message}
-use Rattle.plan.specs.declared.Pair.{Pair}
-use Rattle.plan.specs.declared.Party.{Party}
+use Rattle.stamps.specs.declared.Pair.{Pair}
+use Rattle.method.specs.declared.Goal.{Goal}
+use Rattle.method.specs.declared.Held.the-variants.{Full}
+use Rattle.method.specs.declared.Message.{Message}
+use Rattle.method.specs.declared.Party.{Party}
 use Rattle.rack.specs.declared.Rack.{Rack}
-use Rattle.plan.specs.declared.Work.{Work}
-use Rattle.plan.specs.declared.Work.the-variants.{Asking, Keeping}
+use Rattle.method.specs.declared.Work.{Work}
+use Rattle.method.specs.declared.Work.the-variants.{Asking, Keeping}
 use Rattle.words.specs.Places.{first-long}
 use Rattle.words.specs.Trip.{open-long}
 use Rattle.words.specs.Writing.{pairWords, openWords, toldWords, workWords, flag, partyWords, bodyKind, bodyWords, slotWords, putFirsts, headOf, partiesPut, pairsPut, wirePut, recordPut, writtenOf}

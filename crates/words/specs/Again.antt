@@ -11,11 +11,11 @@ use borrow.Author.Tests.{lt-ltb, le-ltb}
 use Rattle.record.specs.declared.Entry.the-variants.{ReadAsked, Done}
 use Rattle.rows.specs.Row.{rowOf}
 use Rattle.rack.specs.declared.Line.{Line}
-use Rattle.plan.specs.declared.Pair.{Pair}
-use Rattle.plan.specs.declared.Party.{Party}
+use Rattle.stamps.specs.declared.Pair.{Pair}
+use Rattle.method.specs.declared.Party.{Party}
 use Rattle.rack.specs.declared.Rack.{Rack}
 use Rattle.rack.specs.declared.Slot.{Slot}
-use Rattle.plan.specs.Stamp.{freshPair}
+use Rattle.stamps.specs.Stamp.{freshPair}
 use Rattle.rack.specs.Places.{empty, idle, partyAt, pairAt, heldAt}
 use Rattle.rack.specs.Sound.{allBelow, soundOf}
 use Rattle.rack.specs.SoundLaws.{Sound, sound-of}

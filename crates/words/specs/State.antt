@@ -6,13 +6,13 @@ use mathlib.Core.List.{List}
 use native.Mathlib.Omega.{arith}
 use lib.Dec.{ltb, eqb}
 use borrow.Author.Tests.{le-ltb, ltb-true, ltb-false}
-use Rattle.plan.specs.declared.Party.{Party}
+use Rattle.method.specs.declared.Party.{Party}
 use Rattle.rack.specs.declared.Sizes.{Sizes}
 use Rattle.rack.specs.declared.Slot.{Slot}
 use Rattle.rack.specs.Places.{empty, idle, partyAt, heldAt}
 use Rattle.rack.specs.Sound.{allBelow, heldFits, messageFits, workFits, owed, soundOf}
 use Rattle.rack.specs.SoundLaws.{Sound, sound-of}
-use Rattle.plan.specs.Tests.{never}
+use Rattle.method.specs.Tests.{never}
 use Rattle.rack.specs.Tests.{all-at}
 use Rattle.words.specs.Layout.{partyPlace, slotPlace, entryPlace, word}
 use Rattle.words.specs.Reading.{byteOf, partyKnown, partyIn, messageKnown, heldOf, slotIn, lineKnown, countOf, countIn, sizesIn, rackOf}

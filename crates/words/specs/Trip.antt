@@ -13,18 +13,18 @@ use Rattle.record.specs.declared.Cell.{Cell}
 use Rattle.record.specs.declared.Entry.{Entry}
 use Rattle.record.specs.declared.Entry.the-variants.{ReadAsked, WriteAsked, Told, Done}
 use Rattle.rows.specs.Row.{entryOf, rowOf}
-use Rattle.plan.specs.declared.Pair.{Pair}
-use Rattle.plan.specs.declared.Body.{Body}
-use Rattle.plan.specs.declared.Body.the-variants.{Ask, Tell, Keep, Kept}
-use Rattle.plan.specs.declared.Message.{Message}
-use Rattle.plan.specs.declared.Held.{Held}
-use Rattle.plan.specs.declared.Held.the-variants.{Empty, Full}
-use Rattle.plan.specs.declared.Goal.{Goal}
-use Rattle.plan.specs.declared.Goal.the-variants.{Read, Write}
-use Rattle.plan.specs.declared.Work.{Work}
-use Rattle.plan.specs.declared.Work.the-variants.{Idle, Asking, Keeping}
-use Rattle.plan.specs.declared.Party.{Party}
-use Rattle.plan.specs.Stamp.{freshPair}
+use Rattle.stamps.specs.declared.Pair.{Pair}
+use Rattle.method.specs.declared.Body.{Body}
+use Rattle.method.specs.declared.Body.the-variants.{Ask, Tell, Keep, Kept}
+use Rattle.method.specs.declared.Message.{Message}
+use Rattle.method.specs.declared.Held.{Held}
+use Rattle.method.specs.declared.Held.the-variants.{Empty, Full}
+use Rattle.method.specs.declared.Goal.{Goal}
+use Rattle.method.specs.declared.Goal.the-variants.{Read, Write}
+use Rattle.method.specs.declared.Work.{Work}
+use Rattle.method.specs.declared.Work.the-variants.{Idle, Asking, Keeping}
+use Rattle.method.specs.declared.Party.{Party}
+use Rattle.stamps.specs.Stamp.{freshPair}
 use Rattle.words.specs.Layout.{word}
 use Rattle.words.specs.Reading.{byteOf, setOf, pairIn, goalOf, workOf, workIn, partyKnown, partyIn, bodyOf, messageKnown, fullIn, heldOf, entryKnown, lineKnown, lineIn}
 use Rattle.words.specs.Writing.{pairWords, noPair, openWords, toldWords, workWords, flag, partyWords, bodyKind, bodyWords, slotWords}

@@ -3,7 +3,7 @@ use mathlib.Core.Path.{sym, _∙_}
 use native.Mathlib.Omega.{arith}
 use lib.ListN.{List·getD-eq-default}
 use borrow.Author.Needs.{needs}
-use Rattle.plan.specs.Stamp.{freshPair}
+use Rattle.stamps.specs.Stamp.{freshPair}
 use Rattle.show.proofs.pair_at.Statement.{statement}
 use Rattle.show.proofs.pair_at.Tie as tie
 

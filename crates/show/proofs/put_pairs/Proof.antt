@@ -6,7 +6,7 @@ use borrow.Author.Needs.{needs}
 use Rattle.text.specs.Text.{Printed}
 use Rattle.text.specs.Printing.{printed-length}
 use Rattle.show.proofs.Laws.{each-none, each-next, each-all}
-use Rattle.plan.specs.Stamp.{freshPair}
+use Rattle.stamps.specs.Stamp.{freshPair}
 use Rattle.rack.specs.Places.{pairPlace}
 use Rattle.show.specs.Words.{space}
 use Rattle.show.specs.Lines.{eachBelow, pairText}

@@ -4,7 +4,7 @@ use Rattle.words.specs.Layout.{pairPlace}
 use Rattle.words.proofs.Writing.{Storing, stores, stores-long, stores-on, stores-end}
 use lib.ListN.{getD}
 use mathlib.Core.Path.{_∙_}
-use Rattle.plan.specs.Stamp.{freshPair}
+use Rattle.stamps.specs.Stamp.{freshPair}
 use Rattle.words.specs.Writing.{pairWritten}
 use borrow.Author.Needs.{needs}
 use Rattle.words.proofs.put_pairs.Statement.{statement}

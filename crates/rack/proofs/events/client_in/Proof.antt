@@ -1,6 +1,6 @@
 -- `rack::events::client_in` meets its contract.
 use borrow.Author.Needs.{needs}
-use Rattle.plan.specs.About.{clientIn}
+use Rattle.method.specs.About.{clientIn}
 use Rattle.rack.proofs.events.client_in.Statement.{statement}
 use Rattle.rack.proofs.events.client_in.Tie as tie
 

@@ -1,6 +1,6 @@
 -- `rack::events::client_of` meets its contract.
 use borrow.Author.Needs.{needs}
-use Rattle.plan.specs.About.{clientOf}
+use Rattle.method.specs.About.{clientOf}
 use Rattle.rack.proofs.events.client_of.Statement.{statement}
 use Rattle.rack.proofs.events.client_of.Tie as tie
 

@@ -1,0 +1,32 @@
+-- `plan::deliver_held` meets its contract.
+use borrow.Author.Needs.{needs}
+use Rattle.method.specs.Plan.{ofSlot}
+use Rattle.plan.proofs.deliver_held.Statement.{statement}
+use Rattle.plan.proofs.deliver_held.Tie as tie
+
+enum-told : tie.Need-enum-told
+enum-told c = search needs
+
+enum-known-held : tie.Need-enum-known-held
+enum-known-held c = search needs
+
+deliver-requires : tie.Need-deliver-requires
+deliver-requires c κs = search needs
+
+returns : tie.Need-returns
+unfolding ofSlot
+returns c = rw (c .enum-told .given .1)
+
+returns-2 : tie.Need-returns-2
+unfolding ofSlot
+returns-2 c = rw (c .deliver .ensures, c .before .before .held .given .1)
+
+pub deliver-held-spec : {M : Type 1} → statement M
+deliver-held-spec =
+    tie.close
+    (tie.spec
+    enum-told
+    enum-known-held
+    deliver-requires
+    returns
+    returns-2)

@@ -1,0 +1,26 @@
+-- `plan::keeps` meets its contract.
+use borrow.Author.Needs.{needs}
+use Rattle.method.specs.Plan.{keepsOf}
+use Rattle.plan.proofs.keeps.Statement.{statement}
+use Rattle.plan.proofs.keeps.Tie as tie
+
+at-work-requires : tie.Need-at-work-requires
+at-work-requires c κs = search needs
+
+message-of-requires : tie.Need-message-of-requires
+message-of-requires c κs = search needs
+
+every-requires : tie.Need-every-requires
+every-requires c κs = search needs
+
+planned-requires : tie.Need-planned-requires
+planned-requires c κs = search needs
+
+returns : tie.Need-returns
+unfolding keepsOf
+returns c = rw (c .planned .ensures, c .before .every .ensures, c .before .before .message-of .ensures, c .before .before .before .at-work .ensures)
+
+pub keeps-spec : {M : Type 1} → statement M
+keeps-spec =
+    tie.close
+    (tie.spec at-work-requires message-of-requires every-requires planned-requires returns)
