@@ -11,7 +11,7 @@ use Rattle.record.specs.declared.Answer.{Answer}
 use Rattle.record.specs.Record.{allOf}
 use Rattle.rows.specs.Rows.{rowsOf, writeOutcome, Leaves}
 use Rattle.rows.specs.RowLaws.{rows-length}
-use Rattle.rows.specs.Wrote.{sets-append, sets-front}
+use Rattle.number.specs.Wrote.{sets-append, sets-front}
 use Rattle.rack.specs.declared.Line.{Line}
 use Rattle.rack.specs.declared.Rack.{Rack}
 use Rattle.method.specs.declared.Event.{Event}

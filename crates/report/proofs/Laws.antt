@@ -4,7 +4,7 @@ use mathlib.Core.Path.{_≡_}
 use mathlib.Core.List.{List}
 use native.Mathlib.Omega.{arith}
 use lib.ListN.{length, length-append}
-use Rattle.rows.specs.Wrote.{Wrote}
+use Rattle.number.specs.Wrote.{Wrote}
 use Rattle.record.specs.declared.Cell.{Cell}
 use Rattle.verdict.specs.declared.Verdict.{Verdict}
 use Rattle.verdict.specs.declared.Verdict.the-variants.{Lawful, Unlawful, Refused}

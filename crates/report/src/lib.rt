@@ -1,6 +1,6 @@
 // The line that the judge program writes for a verdict.
 ghost use Prim.Native.Nat.{_≤_};
-ghost use Rattle.rows.specs.Wrote.{Wrote};
+ghost use Rattle.number.specs.Wrote.{Wrote};
 ghost use Rattle.text.specs.Text.{Printed};
 ghost use Rattle.report.specs.Line.{lineOf};
 use verdict::Verdict;

@@ -15,7 +15,7 @@ use Rattle.rows.specs.Row.{rowAt}
 use Rattle.rows.specs.Rows.{rowsHeld, measureOf, refused, writeInto, writeOutcome, Outcome}
 use Rattle.rows.specs.RowLaws.{row-next, more-rows, no-more-rows}
 use Rattle.rows.specs.Storing.{Writable, Going, Next, step, some-left, none-left, same-going, finish, stored-fits, stored-short}
-use Rattle.rows.specs.Wrote.{Wrote}
+use Rattle.number.specs.Wrote.{Wrote}
 
 pub record Emitting (rows bytes₀ bytes : List ℕ) (n out : ℕ) : Type 0 where
   pub all : List Entry

@@ -15,7 +15,7 @@ use Rattle.record.specs.declared.Cell.{Cell}
 use Rattle.record.specs.declared.Entry.{Entry}
 use Rattle.record.specs.declared.Entry.the-variants.{WriteAsked, Told}
 use Rattle.record.specs.Entry.{entryBytes}
-use Rattle.rows.specs.Wrote.{Wrote}
+use Rattle.number.specs.Wrote.{Wrote}
 
 -- a number that fits is written
 pub placed-next : (d d′ : List ℕ) (at n next : ℕ) (r : Put) → at + length (numberBytes n) ≤ length d → Placed d at n r d′ → r ≡ Next next → Wrote d at (numberBytes n) next d′

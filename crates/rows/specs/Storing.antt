@@ -15,7 +15,7 @@ use Rattle.record.specs.declared.Answer.the-variants.{All}
 use Rattle.record.specs.Record.{standingAfter, Held, entries, heldFrom, allOf, bytesOf}
 use Rattle.record.specs.Steps.{first, ends, empty}
 use Rattle.rows.specs.Rows.{rowsOf, refused, stored}
-use Rattle.rows.specs.Wrote.{sets-append, sets-front}
+use Rattle.number.specs.Wrote.{sets-append, sets-front}
 
 -- n entries are held, and their rows fit
 pub record Storable (h : Held) (n : ℕ) (d : List ℕ) : Type 0 where

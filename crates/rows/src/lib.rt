@@ -10,7 +10,7 @@ ghost use Rattle.record.specs.Record.{recordOf};
 ghost use Rattle.rows.specs.Row.{rowOf, rowFound, rowAt};
 ghost use Rattle.rows.specs.Rows.{rowsHeld, measureOf, readOutcome, writeOutcome, Leaves};
 ghost use Rattle.rows.specs.Storing.{Storable, Writable};
-ghost use Rattle.rows.specs.Wrote.{Wrote, Long};
+ghost use Rattle.number.specs.Wrote.{Wrote, Long};
 use number::Put;
 use record::Answer;
 use record::Cell;

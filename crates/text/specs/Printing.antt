@@ -8,7 +8,7 @@ use lib.ListN.{length, length-append, set}
 use lib.Seq.{sets, length-sets, set-out}
 use lib.Dec.{leb}
 use borrow.Author.Tests.{leb-true, leb-false}
-use Rattle.rows.specs.Wrote.{sets-append}
+use Rattle.number.specs.Wrote.{sets-append}
 use Rattle.text.specs.Text.{hexByte, hexText, Printed}
 
 -- what would stand past the end is dropped

@@ -2,7 +2,7 @@
 use native.Mathlib.Omega.{arith}
 use Rattle.number.specs.ValueLaws.{alternating-of-bits}
 use Rattle.record.specs.Entry.{entryBytes}
-use Rattle.rows.specs.Wrote.{longer}
+use Rattle.number.specs.Wrote.{longer}
 use borrow.Author.Needs.{needs}
 use Rattle.rows.proofs.entry_length.Statement.{statement}
 use Rattle.rows.proofs.entry_length.Tie as tie

@@ -3,7 +3,7 @@ use mathlib.Core.List.{_++_}
 use Rattle.number.specs.Number.{numberBytes}
 use native.Mathlib.Omega.{arith}
 use Rattle.number.specs.Laws.{length-few}
-use Rattle.rows.specs.Wrote.{length-joined}
+use Rattle.number.specs.Wrote.{length-joined}
 use borrow.Author.Needs.{needs}
 use Rattle.rows.proofs.four_length.Statement.{statement}
 use Rattle.rows.proofs.four_length.Tie as tie

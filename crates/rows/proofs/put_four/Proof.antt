@@ -3,7 +3,7 @@ use native.Mathlib.Omega.{arith}
 use mathlib.Core.List.{_++_}
 use lib.ListN.{length-append}
 use Rattle.number.specs.Number.{numberBytes}
-use Rattle.rows.specs.Wrote.{join, wrote-length}
+use Rattle.number.specs.Wrote.{join, wrote-length}
 use borrow.Author.Needs.{needs}
 use Rattle.rows.proofs.put_four.Statement.{statement}
 use Rattle.rows.proofs.put_four.Tie as tie
