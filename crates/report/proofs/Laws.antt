@@ -8,10 +8,10 @@ use Rattle.number.specs.Wrote.{Wrote}
 use Rattle.record.specs.declared.Cell.{Cell}
 use Rattle.verdict.specs.declared.Verdict.{Verdict}
 use Rattle.verdict.specs.declared.Verdict.the-variants.{Lawful, Unlawful, Refused}
-use Rattle.text.specs.Text.{field, lineFeed, Printed}
+use Rattle.text.specs.Text.{field, refusedWord, lineFeed, Printed}
 use Rattle.text.specs.Printing.{join}
 use Rattle.text.specs.Length.{digits-few}
-use Rattle.report.specs.Line.{lawfulLine, unlawfulWords, refusedWord, entryWords, lineOf}
+use Rattle.report.specs.Line.{lawfulLine, unlawfulWords, entryWords, lineOf}
 
 -- the line of each verdict, part by part
 module _ {l : List ℕ} (v : Verdict) {r : ℕ} {after : List ℕ} where

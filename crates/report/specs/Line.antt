@@ -1,7 +1,7 @@
 -- The line that the judge program writes for a verdict. The paper: "What lawful means", its last sentence.
 use Prim.Native.Nat.{ℕ}
 use mathlib.Core.List.{List, [], _∷_, _++_}
-use Rattle.text.specs.Text.{field, lineFeed}
+use Rattle.text.specs.Text.{field, refusedWord, lineFeed}
 use Rattle.verdict.specs.declared.Verdict.{Verdict}
 use Rattle.verdict.specs.declared.Verdict.the-variants.{Lawful, Unlawful, Refused}
 
@@ -12,10 +12,6 @@ lawfulLine = 108 ∷ 97 ∷ 119 ∷ 102 ∷ 117 ∷ 108 ∷ 10 ∷ []
 -- "unlawful cell "
 abbrev pub unlawfulWords : List ℕ
 unlawfulWords = 117 ∷ 110 ∷ 108 ∷ 97 ∷ 119 ∷ 102 ∷ 117 ∷ 108 ∷ 32 ∷ 99 ∷ 101 ∷ 108 ∷ 108 ∷ 32 ∷ []
-
--- "refused "
-abbrev pub refusedWord : List ℕ
-refusedWord = 114 ∷ 101 ∷ 102 ∷ 117 ∷ 115 ∷ 101 ∷ 100 ∷ 32 ∷ []
 
 -- " at entry "
 abbrev pub entryWords : List ℕ

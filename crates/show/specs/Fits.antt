@@ -8,7 +8,7 @@ use lib.Dec.{eqb}
 use lib.ListN.{length, length-append, take}
 use Rattle.number.specs.Value.{alternatingOf}
 use Rattle.number.specs.Laws.{length-few}
-use Rattle.text.specs.Text.{decimal, field, lineFeed, hexText}
+use Rattle.text.specs.Text.{decimal, field, refusedWord, lineFeed, hexText}
 use Rattle.text.specs.Length.{Few, both, digits-few, value-few, hex-few}
 use Rattle.record.specs.declared.Entry.{Entry}
 use Rattle.record.specs.declared.Entry.the-variants.{ReadAsked, WriteAsked, Told, Done}
@@ -32,7 +32,7 @@ use Rattle.rack.specs.declared.Ran.{Ran}
 use Rattle.rack.specs.Places.{partyAt, pairAt, heldAt, recordOf}
 use Rattle.rack.specs.Sound.{soundOf}
 use Rattle.rack.specs.SoundLaws.{sound-of}
-use Rattle.show.specs.Words.{doneStart, refusedStart, noneWord, replicaStart, clientStart, slotStart, recordStart, space, askingWord, keepingWord, fromNone, heldNone}
+use Rattle.show.specs.Words.{doneStart, noneWord, replicaStart, clientStart, slotStart, recordStart, space, askingWord, keepingWord, fromNone, heldNone}
 use Rattle.show.specs.Lines.{eachBelow, pairText, kindText, bodyPair, namesText, messageText, slotLine, goalText, memberText, membersText, openText, heldText, firstHeld, workText, stoppedText, clientLine, powerText, pairsText, replicaLine, sizesLine, recordLine, rackText, refusalText, ranText, faultLine}
 
 -- ---- pairs
@@ -191,7 +191,7 @@ pub ran-fits : (q : Ran) → soundOf (q .rack) ≡ true → length (ranText q) �
 unfolding ranText
 ran-fits q h =
     let done : Few (field doneStart (q .done)) 25 = record { few = omega (arith, digits-few 20 (q .done) .few) } in
-    let start : Few refusedStart 8 = record { few = omega arith } in
+    let start : Few refusedWord 8 = record { few = omega arith } in
     let end : Few lineFeed 1 = record { few = omega arith } in
     omega (arith, both (both done (both end (both start (both (refusal-few (q .refusal)) end)))) (rack-few (q .rack) h) .few)
 

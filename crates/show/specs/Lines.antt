@@ -3,7 +3,7 @@ use Prim.Native.Nat.{ℕ, zero, suc}
 use mathlib.Core.List.{List, [], _++_}
 use mathlib.Core.Bool.{Bool, true, false, cond}
 use lib.Dec.{eqb}
-use Rattle.text.specs.Text.{decimal, field, lineFeed, valueText, hexText}
+use Rattle.text.specs.Text.{decimal, field, refusedWord, lineFeed, valueText, hexText}
 use Rattle.record.specs.Record.{bytesOf}
 use Rattle.quorum.specs.Sets.{hasReplica}
 use Rattle.stamps.specs.declared.Pair.{Pair}
@@ -21,7 +21,7 @@ use Rattle.rack.specs.declared.Sizes.{Sizes}
 use Rattle.rack.specs.declared.Rack.{Rack}
 use Rattle.rack.specs.declared.Ran.{Ran}
 use Rattle.rack.specs.Places.{slotLimit, partyAt, pairAt, heldAt, recordOf}
-use Rattle.show.specs.Words.{doneStart, refusedStart, noneWord, byteWords, rackStart, replicaStart, clientStart, slotStart, recordStart, space, dot, equals, onWord, offWord, stoppedWord, idleWords, askingWord, keepingWord, readWord, writeWord, fromWord, fromNone, heldWord, heldNone, askWord, tellWord, keepWord, keptWord, pairWord, clientWord, replicaWord, cellWord, opWord}
+use Rattle.show.specs.Words.{doneStart, noneWord, byteWords, rackStart, replicaStart, clientStart, slotStart, recordStart, space, dot, equals, onWord, offWord, stoppedWord, idleWords, askingWord, keepingWord, readWord, writeWord, fromWord, fromNone, heldWord, heldNone, askWord, tellWord, keepWord, keptWord, pairWord, clientWord, replicaWord, cellWord, opWord}
 
 -- ---- what lines are made of
 
@@ -128,8 +128,8 @@ refusalText k = cond (eqb k 0) noneWord (decimal k)
 
 -- the lines of a run
 unfoldable pub ranText : Ran → List ℕ
-ranText q = (field doneStart (q .done) ++ (lineFeed ++ (refusedStart ++ (refusalText (q .refusal) ++ lineFeed)))) ++ rackText (q .rack)
+ranText q = (field doneStart (q .done) ++ (lineFeed ++ (refusedWord ++ (refusalText (q .refusal) ++ lineFeed)))) ++ rackText (q .rack)
 
 -- the one line of a script that has a fault
 unfoldable pub faultLine : ℕ → ℕ → List ℕ
-faultLine refusal byte = field refusedStart refusal ++ (field byteWords byte ++ lineFeed)
+faultLine refusal byte = field refusedWord refusal ++ (field byteWords byte ++ lineFeed)

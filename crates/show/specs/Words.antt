@@ -6,10 +6,6 @@ use mathlib.Core.List.{List, [], _∷_}
 abbrev pub doneStart : List ℕ
 doneStart = 100 ∷ 111 ∷ 110 ∷ 101 ∷ 32 ∷ []
 
--- "refused "
-abbrev pub refusedStart : List ℕ
-refusedStart = 114 ∷ 101 ∷ 102 ∷ 117 ∷ 115 ∷ 101 ∷ 100 ∷ 32 ∷ []
-
 -- "none"
 abbrev pub noneWord : List ℕ
 noneWord = 110 ∷ 111 ∷ 110 ∷ 101 ∷ []

@@ -4,14 +4,14 @@ ghost use mathlib.Core.List.{_++_, map};
 ghost use Prim.Native.Nat.{min};
 ghost use lib.ListN.{getD, take};
 ghost use Rattle.number.specs.Number.{numberBytes};
-ghost use Rattle.text.specs.Text.{field, lineFeed, hexText, Printed};
+ghost use Rattle.text.specs.Text.{field, refusedWord, lineFeed, hexText, Printed};
 ghost use Rattle.record.specs.Entry.{entryBytes};
 ghost use Rattle.record.specs.Record.{bytesOf};
 ghost use Rattle.quorum.specs.Sets.{hasReplica};
 ghost use Rattle.rack.specs.declared.Line.{Line};
 ghost use Rattle.stamps.specs.Stamp.{freshPair};
 ghost use Rattle.rack.specs.Places.{idle, pairPlace, heldIn};
-ghost use Rattle.show.specs.Words.{doneStart, refusedStart, space, pairWord, askingWord, keepingWord};
+ghost use Rattle.show.specs.Words.{doneStart, space, pairWord, askingWord, keepingWord};
 ghost use Rattle.show.specs.Lines.{eachBelow, pairText, kindText, bodyPair, namesText, messageText, slotLine, goalText, memberText, membersText, openText, heldText, firstHeld, workText, stoppedText, clientLine, powerText, replicaLine, sizesLine, recordLine, rackText, refusalText, ranText, faultLine};
 use method::Body;
 use method::Goal;
@@ -471,7 +471,7 @@ fn put_refusal(out: &mut [u8], at: usize, refusal: u8) -> usize
 
 // How many events were done, and the refusal.
 fn put_end(out: &mut [u8], at: usize, done: usize, refusal: u8) -> usize
-    ensures { λ r. ⌜ Printed (now (out .entry)) at (field doneStart done ++ (lineFeed ++ (refusedStart ++ (refusalText refusal ++ lineFeed)))) r (now (out .exit)) ⌝ }
+    ensures { λ r. ⌜ Printed (now (out .entry)) at (field doneStart done ++ (lineFeed ++ (refusedWord ++ (refusalText refusal ++ lineFeed)))) r (now (out .exit)) ⌝ }
 {
     let a = put_field(out, at, b"done ", done);
     let b = put_words(out, a, b"\n");

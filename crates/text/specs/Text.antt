@@ -21,6 +21,10 @@ decimal n = digitsOf 20 n
 abbrev pub field : List ℕ → ℕ → List ℕ
 field words n = words ++ decimal n
 
+-- "refused ", before a refusal's number
+abbrev pub refusedWord : List ℕ
+refusedWord = 114 ∷ 101 ∷ 102 ∷ 117 ∷ 115 ∷ 101 ∷ 100 ∷ 32 ∷ []
+
 -- the line feed
 abbrev pub lineFeed : List ℕ
 lineFeed = 10 ∷ []
