@@ -94,7 +94,7 @@ pub record Named (low k n limit : ℕ) : Type 0 where
   pub last : k ≡ 28 → n ≡ limit
   pub early : k < 28 → n < limit
 
-no-entries : {A : Type 0} {k n : ℕ} {es : List Entry} → entries es ≡ fault k n → A
+pub no-entries : {A : Type 0} {k n : ℕ} {es : List Entry} → entries es ≡ fault k n → A
 no-entries p = let z : _≡_ {A = ℕ} 0 1 = cc in absurd (omega arith)
 
 before-fault : (e : Entry) (h : Held) (k n : ℕ) → before e h ≡ fault k n → h ≡ fault k n
