@@ -43,7 +43,7 @@ element-write-most : tie.Need-element-write-most
 element-write-most c = search needs
 
 returns : tie.Need-returns
-returns c = (cc (c .before .before .before .lesser .ensures, c .before .before .before .before .narrow .ensures), cc (c .greater .ensures))
+returns c = (rw (c .before .before .before .lesser .ensures, c .before .before .before .before .narrow .ensures), rw (c .greater .ensures))
 
 pub join-spec : {M : Type 1} → statement M
 join-spec =

@@ -37,7 +37,7 @@ element-write-least : tie.Need-element-write-least
 element-write-least c = search needs
 
 returns : tie.Need-returns
-returns c = cc (c .lesser .ensures, c .before .stop-of .ensures, c .before .before .narrow .ensures, c .before .before .before .before .before .wide .ensures .0)
+returns c = rw (c .lesser .ensures, c .before .stop-of .ensures, c .before .before .narrow .ensures, c .before .before .before .before .before .wide .ensures .0)
 
 pub take-done-spec : {M : Type 1} → statement M
 take-done-spec =

@@ -31,7 +31,7 @@ element-write-zero : tie.Need-element-write-zero
 element-write-zero c = search needs
 
 returns : tie.Need-returns
-returns c = cc (c .greater .ensures, c .before .before .before .wide-cell .ensures .0)
+returns c = rw (c .greater .ensures, c .before .before .before .wide-cell .ensures .0)
 
 pub take-zero-spec : {M : Type 1} → statement M
 take-zero-spec =
