@@ -44,19 +44,21 @@ use Rattle.back.specs.Standing.{openFor, openIn, Within, PairSmall, Body
 
 -- ---- one entry
 
--- its client, what that client must have open for it, and what it has open after it
+-- its client
 abbrev pub whose : Entry → ℕ
 whose (ReadAsked client cell) = client .0
 whose (WriteAsked client cell v) = client .0
 whose (Told client v) = client .0
 whose (Done client) = client .0
 
+-- what that client must have open for it: nothing is 0, a read 1, a write 2
 abbrev pub needs : Entry → ℕ
 needs (ReadAsked client cell) = 0
 needs (WriteAsked client cell v) = 0
 needs (Told client v) = 1
 needs (Done client) = 2
 
+-- what that client has open after it: nothing is 0, a read 1, a write 2
 abbrev pub leaves : Entry → ℕ
 leaves (ReadAsked client cell) = 1
 leaves (WriteAsked client cell v) = 2
@@ -85,6 +87,7 @@ pub record Keeps (z : Sizes) (k before : ℕ) (p : Plan) : Type 0 where
   pub pair : PairSmall (p .pair)
   pub body : BodySmall (p .message .body)
 
+-- what holds of an outcome: of a refusal nothing, of a plan the above
 abbrev pub OutcomeKeeps : Sizes → ℕ → ℕ → Outcome → Type 0
 OutcomeKeeps z k before (No n) = Unit {0}
 OutcomeKeeps z k before (Go p) = Keeps z k before p
@@ -128,6 +131,7 @@ holds-small set held q h hq = go (eqb set 0)
 -- ---- an event's outcome, from a client and a pair whose values are small
 
 module _ (z : Sizes) (power : ℕ) (party : Party) (pair : Pair) (work : WorkSmall (party .work)) (here : PairSmall pair) where
+  -- what the event looks at: the number of replicas, the power, the client and the pair
   abbrev seen : Sight
   seen = record { replicas = z .replicas; power = power; party = party; pair = pair }
 

@@ -48,29 +48,35 @@ Within z (WriteAsked client cell v) = (client .0 < z .clients) × (cell .0 < z .
 Within z (Told client v) = (client .0 < z .clients) × SFits w32 v
 Within z (Done client) = client .0 < z .clients
 
+-- every entry of the list is one of this rack
 abbrev pub AllWithin : Sizes → List Entry → Type 0
 AllWithin z [] = Unit {0}
 AllWithin z (e ∷ es) = Within z e × AllWithin z es
 
 -- ---- values of 32 bits
 
+-- the pair's value is one of 32 bits
 abbrev pub PairSmall : Pair → Type 0
 PairSmall p = SFits w32 (p .value)
 
+-- the pair of a tell or a keep has a value of 32 bits
 abbrev pub BodySmall : Body → Type 0
 BodySmall Ask = Unit {0}
 BodySmall (Tell p) = PairSmall p
 BodySmall (Keep p) = PairSmall p
 BodySmall Kept = Unit {0}
 
+-- the message that the slot holds, if any, has a value of 32 bits
 abbrev pub HeldSmall : Held → Type 0
 HeldSmall Empty = Unit {0}
 HeldSmall (Full m) = BodySmall (m .body)
 
+-- the value that a write asks for is one of 32 bits
 abbrev pub GoalSmall : Goal → Type 0
 GoalSmall Read = Unit {0}
 GoalSmall (Write v) = SFits w32 v
 
+-- the values of an open operation are of 32 bits: the one held and, while it asks, the one to be written
 abbrev pub WorkSmall : Work → Type 0
 WorkSmall Idle = Unit {0}
 WorkSmall (Asking cell goal set held) = GoalSmall goal × PairSmall held

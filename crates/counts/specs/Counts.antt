@@ -30,7 +30,7 @@ inUse wire = countFrom slotLimit 0 (λ i. not (freeAt wire i))
 
 -- ---- messages
 
--- a copy is counted for each copy event, a loss for each lose event (messages sent and deliveries: `sentBy` and `deliveredBy` of the bench sheet)
+-- copies: one for each copy event (messages sent and deliveries: `sentBy` and `deliveredBy` of the bench sheet)
 unfoldable pub copiedBy : Event → ℕ
 copiedBy (StartRead client cell) = 0
 copiedBy (StartWrite client cell v) = 0
@@ -43,6 +43,7 @@ copiedBy (Off replica) = 0
 copiedBy (On replica) = 0
 copiedBy Unknown = 0
 
+-- losses: one for each lose event
 unfoldable pub lostBy : Event → ℕ
 lostBy (StartRead client cell) = 0
 lostBy (StartWrite client cell v) = 0
@@ -66,6 +67,7 @@ pub record Tally : Type 0 where
   pub delivered : ℕ
   pub lost : ℕ
 
+-- what a run sends, copies, delivers and loses, each counted from the events done
 abbrev pub tallyOf : Rack → ℕ → List ℕ → Tally
 tallyOf r allowance ws = record {
   sent = countOf sentBy r allowance ws;

@@ -40,15 +40,19 @@ use-room w = use-or-free 256 0 (freeAt w)
 
 -- ---- a run
 
+-- a sound rack whose wire has 256 slots
 abbrev Wired : Rack → Type 0
 Wired r = (soundOf r ≡ true) × (length (r .wire) ≡ 256)
 
+-- the slots of the rack's wire that hold a message
 abbrev usedIn : Rack → ℕ
 usedIn r = inUse (r .wire)
 
+-- messages that an event takes out of their slots: delivered or lost
 abbrev leaves : Event → Plan → ℕ
 leaves e p = deliveredBy e + lostBy e
 
+-- messages that an event puts into slots: sent or copied
 abbrev enters : Event → Plan → ℕ
 enters e p = sentBy e p + copiedBy e
 

@@ -75,6 +75,7 @@ pub record PlanCounts (n client : ℕ) (party : Party) (e : Event) (p : Plan) : 
   pub else-costs : (c k : ℕ) → (client ≡ c → ⊥) → requestsBy c k e p ≡ 0
   pub else-ends : (c : ℕ) → (client ≡ c → ⊥) → endsIn c (p .note) ≡ 0
 
+-- what holds of an outcome: of a refusal nothing, of a plan these counts
 abbrev pub OutcomeCounts : ℕ → ℕ → Party → Event → Outcome → Type 0
 OutcomeCounts n client party e (No k) = Unit {0}
 OutcomeCounts n client party e (Go p) = PlanCounts n client party e p
@@ -82,6 +83,7 @@ OutcomeCounts n client party e (Go p) = PlanCounts n client party e p
 -- ---- an event's outcome
 
 module _ (n : ℕ) (few : n ≤ setBits) (power : ℕ) (party : Party) (pair : Pair) where
+  -- what the event looks at: the number of replicas, the power, the client and the pair
   abbrev seen : Sight
   seen = record { replicas = n; power = power; party = party; pair = pair }
 

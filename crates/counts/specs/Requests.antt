@@ -36,6 +36,7 @@ use Rattle.counts.specs.Runs.{Adds, run-adds, made-fresh}
 
 -- ---- the record after an event
 
+-- the entry that stands in a line of the rack
 abbrev entryOf : Line → Entry
 entryOf l = l .entry
 
@@ -105,6 +106,7 @@ module _ (n c k : ℕ) where
   abbrev costAt : Rack → ℕ
   costAt r = costOf n (partyAt r c) k
 
+  -- a done event keeps what holds of client c, and adds its requests, less its resends, to what operation k has cost
   abbrev Added : Rack → Event → Plan → Type 0
   Added r e p = Adds (Numbered n c) costAt (resentBy c k) (requestsBy c k) r e p
 
@@ -203,9 +205,11 @@ unfolding costOf
 present-cost n party = rw (le-ltb (party .op) (party .op) (omega arith), eq-eqb (party .op) (party .op) refl)
 
 module _ (replicas clients cells allowance : ℕ) (ws : List ℕ) where
+  -- the rack that the maker gives
   abbrev made : Rack
   made = madeOf replicas clients cells .rack
 
+  -- the rack after the run
   abbrev after : Rack
   after = runOf made allowance ws .rack
 

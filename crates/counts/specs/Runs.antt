@@ -81,6 +81,7 @@ module _ (I : Rack → Type 0) (v : Rack → ℕ) (less more : Event → Plan �
 
 -- ---- an unsound rack: nothing is done
 
+-- a run in which nothing is counted and which leaves the rack as it was
 pub record Untouched (f : Event → Plan → ℕ) (r : Rack) (allowance : ℕ) (ws : List ℕ) : Type 0 where
   pub count : countOf f r allowance ws ≡ 0
   pub left : runOf r allowance ws .rack ≡ r

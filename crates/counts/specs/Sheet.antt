@@ -16,19 +16,23 @@ use Rattle.rack.specs.Run.{freshRack, byte, eventOf, inRack, slotOf, placeIn, n
 use Rattle.rack.specs.Counts.{sentBy, deliveredBy, counted, countOver}
 use Rattle.counts.specs.Counts.{inUse, copiedBy, lostBy, countOf, tallyOf, isRequest, requestOf, requestsBy, endsBy, endsOf}
 
--- client 0 starts a write of 9, which stands as 18, to cell 0; slots 0, 1, 0, 1 are delivered, and again
+-- an event in four words: a slot is delivered
 abbrev deliver : ℕ → List ℕ
 deliver slot = 2 ∷ slot ∷ 0 ∷ 0 ∷ []
 
+-- deliver 0, 1, 0, 1
 abbrev four : List ℕ
 four = deliver 0 ++ (deliver 1 ++ (deliver 0 ++ deliver 1))
 
+-- client 0 starts a write of 9, which stands as 18, to cell 0; slots 0, 1, 0, 1 are delivered, and again
 abbrev schedule : List ℕ
 schedule = (1 ∷ 0 ∷ 0 ∷ 18 ∷ []) ++ (four ++ four)
 
+-- the rack after these nine events, from a fresh one of three replicas
 abbrev after : Rack
 after = runOf (freshRack 3 1 1) 9 schedule .rack
 
+-- what the line says: messages sent and delivered, slots still used, and the requests that the write has cost
 pub record CountLine : Type 0 where
   -- sent 10, delivered 8
   pub tally : tallyOf (freshRack 3 1 1) 9 schedule ≡ record { sent = 10; copied = 0; delivered = 8; lost = 0 }

@@ -19,9 +19,11 @@ use Rattle.law.specs.Zones.{crossless-clear, before-zones, greatest, gre
 -- ---- from tags to the rule
 
 module _ (s : List Op) (d : Distinct s) (h : Tagged s) where
+  -- x is an operation of s, and chosen
   abbrev Has : Op → Type 0
   Has x = Chosen s (h .chosen) x
 
+  -- the tag that an operation has by its number
   abbrev tagged : Op → ℕ
   tagged x = h .tag (x .number)
 
@@ -83,6 +85,7 @@ module _ (s : List Op) (d : Distinct s) (h : Tagged s) where
 
 -- ---- from the rule to tags: a cluster's key is the greater end of its zone, then whether its least stop comes first, then its write's number
 
+-- 0 for a cluster whose least stop comes before its greatest start, else 1
 abbrev back : Bool → ℕ
 back true = 0
 back false = 1
@@ -114,6 +117,7 @@ second k l n x y p q e = elim (ℕ-discrete k l) [
   ]
 ]
 
+-- 0 where the statement holds, else n
 abbrev unless : {A : Type 0} → Dec A → ℕ → ℕ
 unless (yes p) n = 0
 unless (no p) n = n
@@ -225,9 +229,11 @@ module _ (s : List Op) (sound : (x : Op) → In x s → T (x .over) → x .start
           let (w, i, v, g, l) = u .sourced a m f (k .0) (λ z. d .nonzero n t (sym e ∙ z)) in
           l (subst (λ (o : Op). a .stop < o .start) (sym (d .apart i n v t (g ∙ e))) (k .1))
 
+  -- chosen are the writes and the finished operations, by their numbers
   abbrev choice : ℕ → Bool
   choice = at false counts s
 
+  -- each operation has the tag of its value, by its number
   abbrev tagging : ℕ → ℕ
   tagging = at 0 (λ x. valueTag s (x .value)) s
 

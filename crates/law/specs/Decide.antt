@@ -13,24 +13,29 @@ use Rattle.law.specs.Order.{In, Pairs, Before, after, Reads, Ordered}
 
 -- ---- of any statements
 
+-- a statement is decided by one that holds exactly when it does
 unfoldable pub dec-as : {A B : Type 0} → (A → B) → (B → A) → Dec A → Dec B
 dec-as f g (yes a) = yes (f a)
 dec-as f g (no h) = no (λ b. h (g b))
 
+-- whether two statements both hold
 unfoldable pub dec-both : {A B : Type 0} → Dec A → Dec B → Dec (A × B)
 dec-both (yes a) (yes b) = yes (a, b)
 dec-both (yes a) (no b) = no (λ p. b (p .1))
 dec-both (no a) d = no (λ p. a (p .0))
 
+-- whether a statement does not hold
 unfoldable pub dec-not : {A : Type 0} → Dec A → Dec (¬ A)
 dec-not (yes a) = no (λ f. f a)
 dec-not (no a) = yes a
 
+-- whether one statement follows from another
 unfoldable pub dec-to : {A B : Type 0} → Dec A → Dec B → Dec (A → B)
 dec-to (yes a) (yes b) = yes (λ x. b)
 dec-to (yes a) (no b) = no (λ f. b (f a))
 dec-to (no a) d = yes (λ x. absurd (a x))
 
+-- whether a test says yes
 unfoldable pub dec-T : (b : Bool) → Dec (T b)
 dec-T true = yes tt
 dec-T false = no (λ t. t)
@@ -55,10 +60,12 @@ dec-some {A} P (x ∷ xs) d = go (d x (here refl)) (dec-some P xs (λ a m. d a (
     go (no p) (yes w) = yes (w .0, (there (w .1 .0), w .1 .1))
     go (no p) (no q) = no (λ w. ⊎-elim (λ e. p (rw e at (w .1 .1))) (λ n. q (w .0, (n, w .1 .1))) (mem-cons (w .1 .0)))
 
+-- whether each element stands in R to every later one
 unfoldable pub dec-pairs : {A : Type 0} (R : A → A → Type 0) → ((a b : A) → Dec (R a b)) → (l : List A) → Dec (Pairs R l)
 dec-pairs R d [] = yes tt
 dec-pairs R d (x ∷ xs) = dec-both (dec-all (R x) (d x) xs) (dec-pairs R d xs)
 
+-- whether an element stands in a list
 unfoldable pub dec-in : {A : Type 0} → Discrete A → (a : A) (l : List A) → Dec (In a l)
 dec-in eq a [] = no no-mem
 dec-in {A} eq a (x ∷ xs) = go (eq a x) (dec-in eq a xs)
@@ -68,11 +75,12 @@ dec-in {A} eq a (x ∷ xs) = go (eq a x) (dec-in eq a xs)
     go (no e) (yes m) = yes (there m)
     go (no e) (no f) = no (λ m. ⊎-elim e f (mem-cons m))
 
--- the answer, read off
+-- the answer, read off: it is yes
 abbrev pub Yes : {A : Type 0} → Dec A → Type 0
 Yes (yes a) = Unit {0}
 Yes (no h) = ⊥
 
+-- the answer, read off: it is no
 abbrev pub No : {A : Type 0} → Dec A → Type 0
 No (yes a) = ⊥
 No (no h) = Unit {0}
@@ -87,6 +95,7 @@ by-no (no h) t = h
 
 -- ---- of operations
 
+-- whether two values are the same
 unfoldable pub dec-value : Discrete ℤ
 unfolding dec-as
 dec-value (pos m) (pos n) = dec-as (λ e. ap pos e) (λ p. cc) (ℕ-discrete m n)
@@ -94,6 +103,7 @@ dec-value (pos m) (negsuc n) = no (pos-ne-negsuc m n)
 dec-value (negsuc m) (pos n) = no (λ p. pos-ne-negsuc n m (sym p))
 dec-value (negsuc m) (negsuc n) = dec-as (λ e. ap negsuc e) (λ p. cc) (ℕ-discrete m n)
 
+-- two operations agree in every field
 abbrev pub Fields : Op → Op → Type 0
 Fields a b =
     (a .number ≡ b .number) × ((a .client ≡ b .client) × ((a .cell ≡ b .cell) × ((a .write ≡ b .write) × ((a .value ≡ b .value)
@@ -116,6 +126,7 @@ pub op-same : (a b : Op) → a ≡ b → Fields a b
 op-same a b e =
     (λ i. e i .number, (λ i. e i .client, (λ i. e i .cell, (λ i. e i .write, (λ i. e i .value, (λ i. e i .start, (λ i. e i .over, λ i. e i .stop)))))))
 
+-- whether two operations are the same
 unfoldable pub dec-op : Discrete Op
 unfolding dec-as dec-both ℕ-discrete dec-value
 dec-op a b =
@@ -124,13 +135,16 @@ dec-op a b =
     (dec-both (Bool-discrete (a .write) (b .write)) (dec-both (dec-value (a .value) (b .value)) (dec-both (ℕ-discrete (a .start) (b .start))
     (dec-both (Bool-discrete (a .over) (b .over)) (ℕ-discrete (a .stop) (b .stop)))))))))
 
+-- whether one operation is before another
 unfoldable pub dec-before : (a b : Op) → Dec (Before a b)
 dec-before a b = dec-both (dec-T (a .over)) (decLt (a .stop) (b .start))
 
+-- whether each read of the list gives what its cell holds, where the cells hold m at first
 unfoldable pub dec-reads : (m : ℕ → ℤ) (l : List Op) → Dec (Reads m l)
 dec-reads m [] = yes tt
 dec-reads m (x ∷ xs) = dec-both (dec-to (Bool-discrete (x .write) false) (dec-value (x .value) (m (x .cell)))) (dec-reads (after m x) xs)
 
+-- all that makes l a lawful order of s, as one statement
 abbrev pub Conditions : List Op → List Op → Type 0
 Conditions s l =
     ((x : Op) → In x l → In x s) × (((x : Op) → In x s → T (x .over) → In x l) × (((x : Op) → In x l → x .write ≡ false → T (x .over))

@@ -29,9 +29,11 @@ module _ (part : ℕ → List Op) (cells : (c : ℕ) (x : Op) → In x (part c) 
       let k = checked (part c) (once c) (d c) far least most (none c) (z c) in
       (λ h. k .0 (r .0 h), λ h. r .1 (k .1 h))
 
+  -- no cluster has its least stop before the last read of zero of its cell
   abbrev Early : Type 0
   Early = (a : ℕ) → In a ws → none (cell a) ≤ least a
 
+  -- no two clusters of one cell cross
   abbrev Apart : Type 0
   Apart = (a b : ℕ) → In a ws → In b ws → a ≢ b → cell a ≡ cell b → ¬ Cross cell least most a b
 

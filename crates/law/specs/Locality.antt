@@ -24,6 +24,7 @@ use Rattle.law.specs.Reads.{now, ReadsAt, reads-at, at-reads, ofCell-rea
 pub lawful-by : {s : List Op} (l : List Op) → Ordered s l → Lawful s
 lawful-by l o = (map (λ (x : Op). x .number) l, (l, refl, o))
 
+-- the operations in the lawful order that s has
 abbrev pub orderOf : {s : List Op} → Lawful s → List Op
 orderOf h = h .1 .0
 
@@ -56,12 +57,15 @@ ofCell-ordered c s l o =
 abbrev Stamped : Type 0
 Stamped = ℕ × Op
 
+-- the time at which the operation is put in order
 abbrev point : Stamped → ℕ
 point z = z .0
 
+-- the operation without its point
 abbrev op : Stamped → Op
 op z = z .1
 
+-- the operations of a list without their points
 abbrev ops : List Stamped → List Op
 ops l = map op l
 
@@ -87,6 +91,7 @@ stamp-late p [] m = absurd (no-mem m)
 stamp-late p (x ∷ xs) (here e) = let h = ap (λ (w : Stamped). w .0) e in omega arith
 stamp-late p (x ∷ xs) (there m) = let h = stamp-late (max p (x .start)) xs m in omega arith
 
+-- the second has no smaller point than the first
 abbrev Up : Stamped → Stamped → Type 0
 Up a b = a .0 ≤ b .0
 
@@ -136,6 +141,7 @@ sort-reads c v (z ∷ zs) up h =
 
 -- ---- the cells' orders, one after another
 
+-- the lists of all cells below n as one, the highest cell first
 abbrev joined : (ℕ → List Stamped) → ℕ → List Stamped
 joined f zero = []
 joined f (suc n) = f n ++ joined f n
@@ -182,9 +188,11 @@ joined-reads f own each (suc n) c = rw (map-append op (f n) (joined f n)) (go (e
 
 module _ (s : List Op) (n : ℕ) (cells : (x : Op) → In x s → x .cell < n) (sound : (x : Op) → In x s → Sound x)
     (apart : (x y : Op) → In x s → In y s → x .number ≡ y .number → x ≡ y) (f : (c : ℕ) → Lawful (ofCell c s)) where
+  -- the operations of cell k in their lawful order, with their points
   abbrev g : ℕ → List Stamped
   g k = stamp 0 (orderOf (f k))
 
+  -- the operations of all cells with their points, not yet sorted
   abbrev whole : List Stamped
   whole = joined g n
 

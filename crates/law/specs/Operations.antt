@@ -124,6 +124,7 @@ abbrev pub standingFrom : Standing → List Entry → Standing
 standingFrom st [] = st
 standingFrom st (e ∷ es) = standingFrom (standingAfter st e) es
 
+-- what is open after all entries of a record
 abbrev pub standing : List Entry → Standing
 standing es = standingFrom fresh es
 

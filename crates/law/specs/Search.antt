@@ -26,6 +26,7 @@ pub record From (m : ℕ → ℤ) (s l : List Op) : Type 0 where
 
 -- ---- what is left after x
 
+-- x is left out if the test says so, else it stands before the rest
 abbrev pub dropIf : Bool → Op → List Op → List Op
 dropIf true x l = l
 dropIf false x l = x ∷ l
@@ -84,6 +85,7 @@ Next m s x =
     (x .write ≡ false → T (x .over)) × ((x .write ≡ false → x .value ≡ m (x .cell))
     × (((y : Op) → In y (without (x .number) s) → ¬ Before y x) × ((y : Op) → In y s → T (y .over) → y .number ≡ x .number → y ≡ x)))
 
+-- whether x may stand first
 unfoldable pub dec-next : (m : ℕ → ℤ) (s : List Op) (x : Op) → Dec (Next m s x)
 unfolding without dec-both dec-to dec-all dec-not dec-before dec-T dec-value dec-op ℕ-discrete decLt
 dec-next m s x =
@@ -184,6 +186,7 @@ not-from m s h k w = go (w .0) (w .1)
     go [] o = h (λ x i t. no-mem (o .all i t))
     go (x ∷ l) o = k (next-from m s x l o)
 
+-- whether what is left, n operations at most, has a lawful order where the cells hold m
 unfoldable pub dec-from : (n : ℕ) (m : ℕ → ℤ) (s : List Op) → length s ≤ n → Dec ((l : List Op) × From m s l)
 unfolding dec-all dec-not dec-T dec-some dec-both dec-next
 dec-from zero m [] b = yes ([], from-rested m [] (λ x i. absurd (no-mem i)))

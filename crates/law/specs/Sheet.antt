@@ -11,16 +11,19 @@ use Rattle.law.specs.Part.{partFrom, partOf}
 use Rattle.law.specs.Decide.{by-yes, by-no}
 use Rattle.law.specs.Search.{dec-lawful}
 
--- entries by the numbers in them
+-- read asked, by the numbers of client and cell
 abbrev pub reads : ℕ → ℕ → Entry
 reads client cell = ReadAsked (record { 0 = client }) (record { 0 = cell })
 
+-- write asked, by the numbers of client and cell, with the value
 abbrev pub writes : ℕ → ℕ → ℤ → Entry
 writes client cell value = WriteAsked (record { 0 = client }) (record { 0 = cell }) value
 
+-- the entry that ends a read and gives the value, by the number of its client
 abbrev pub told : ℕ → ℤ → Entry
 told client value = Told (record { 0 = client }) value
 
+-- the entry that ends a write, by the number of its client
 abbrev pub done : ℕ → Entry
 done client = Done (record { 0 = client })
 

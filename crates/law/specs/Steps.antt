@@ -22,12 +22,14 @@ pub data Step : Type 0 where
   asks : (client cell : ℕ) (write : Bool) (value : ℤ) → Step
   ends : (client : ℕ) (value : ℤ → ℤ) → Step
 
+-- read asked and write asked start an operation; told ends one with its value, done ends one as it was asked
 abbrev pub stepOf : Entry → Step
 stepOf (ReadAsked client cell) = asks (client .0) (cell .0) false (pos 0)
 stepOf (WriteAsked client cell value) = asks (client .0) (cell .0) true value
 stepOf (Told client value) = ends (client .0) (λ old. value)
 stepOf (Done client) = ends (client .0) (λ old. old)
 
+-- whose operation is started or ended
 abbrev pub clientOf : Step → ℕ
 clientOf (asks k c w v) = k
 clientOf (ends k v) = k
@@ -36,6 +38,7 @@ clientOf (ends k v) = k
 abbrev pub ending : ℕ → ℕ → (ℤ → ℤ) → Op → Op
 ending time client v x = cond (openOf client x) (finished time (v (x .value)) x) x
 
+-- the operations after entry n: an unfinished one more, or the client's open one finished
 abbrev pub noteStep : ℕ → Step → List Op → List Op
 noteStep n (asks k c w v) ops = ops ++ (asked n k c w v n ∷ [])
 noteStep n (ends k v) ops = map (ending n k v) ops
@@ -65,6 +68,7 @@ kind-some false e = omega arith
 abbrev pub put : Standing → ℕ → ℕ → Standing
 put st k what = record { has = set (st .has) k what }
 
+-- what stands open after the entry: its client has the asked operation open, or nothing
 abbrev pub standingStep : Standing → Step → Standing
 standingStep st (asks k c w v) = put st k (kindOf w)
 standingStep st (ends k v) = put st k 0
@@ -101,6 +105,7 @@ abbrev pub stepOn : ℕ → (ℕ → ℕ) → Step → Bool
 stepOn c at (asks k cell w v) = eqb cell c
 stepOn c at (ends k v) = eqb (at k) c
 
+-- the cell of each client's last operation, after the entry
 abbrev pub movedStep : (ℕ → ℕ) → Step → ℕ → ℕ
 movedStep at (asks k cell w v) = moved at k cell
 movedStep at (ends k v) = at

@@ -47,6 +47,7 @@ pub record Tagged (s : List Op) : Type 0 where
 
 -- ---- the order that tags give
 
+-- 0 for a write, 1 for a read: of one tag the write comes first
 abbrev late : Bool → ℕ
 late true = 0
 late false = 1
@@ -55,6 +56,7 @@ late false = 1
 abbrev pub rank : (ℕ → ℕ) → Op → ℕ
 rank tag x = 2 * tag (x .number) + late (x .write)
 
+-- when an operation starts
 abbrev startOf : Op → ℕ
 startOf x = x .start
 
@@ -69,6 +71,7 @@ byTag chosen tag s = sort (rank tag) (sort startOf (kept (λ x. chosen (x .numbe
 
 -- ---- lists of operations
 
+-- two operations have different numbers
 abbrev Differ : Op → Op → Type 0
 Differ x y = x .number ≢ y .number
 
@@ -262,18 +265,23 @@ placed-reads c m t (z ∷ zs) p cells r {x} (there i) w =
 module _ (s : List Op) (c : ℕ) (cells : (x : Op) → In x s → x .cell ≡ c) (sound : (x : Op) → In x s → T (x .over) → x .start ≤ x .stop)
     (once : Pairs (λ x y. x .number ≢ y .number) s) where
   module _ (h : Tagged s) where
+    -- the tag that an operation has by its number
     abbrev tagOf : Op → ℕ
     tagOf x = h .tag (x .number)
 
+    -- x is an operation of s, and chosen
     abbrev Has : Op → Type 0
     Has x = Chosen s (h .chosen) x
 
+    -- one stands before another: by tag, the write first, then by start; where these are equal, their numbers differ
     abbrev Then : Op → Op → Type 0
     Then = First (rank (h .tag)) (First startOf Differ)
 
+    -- the chosen operations, as they stand in s
     abbrev these : List Op
     these = kept (λ x. h .chosen (x .number)) s
 
+    -- the chosen operations in the order that tags give
     abbrev order : List Op
     order = byTag (h .chosen) (h .tag) s
 

@@ -58,10 +58,12 @@ module _ (s : List Op) (far : ℕ) (least most : ℤ → ℕ) (z : Zones s far l
 
 -- ---- every list of operations has zones
 
+-- the greatest so far, r, or a where that is greater and the statement holds
 abbrev raise : {A : Type 0} → Dec A → ℕ → ℕ → ℕ
 raise (yes p) a r = max a r
 raise (no p) a r = r
 
+-- the least so far, r, or a where that is less and the statement holds
 abbrev lower : {A : Type 0} → Dec A → ℕ → ℕ → ℕ
 lower (yes p) a r = min a r
 lower (no p) a r = r

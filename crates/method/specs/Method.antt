@@ -55,6 +55,7 @@ Chosen (Write v) client held chosen = Written client v held chosen
 
 -- ---- entries
 
+-- the entry of a start: read asked, or write asked with its value
 abbrev pub firstEntry : Goal → Client → Cell → Entry
 firstEntry Read client cell = ReadAsked client cell
 firstEntry (Write v) client cell = WriteAsked client cell v

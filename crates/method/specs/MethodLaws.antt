@@ -89,6 +89,7 @@ module _ (s : Sight) where
   -- ---- a slot's message
 
   module _ (m : Message) where
+    -- what is done with the message m, if anything is, is of the method
     abbrev It : Outcome → Type 0
     It = DoesIf s (m .client .0) (Full m)
 
@@ -131,6 +132,7 @@ module _ (s : Sight) where
     -- ---- a tell
 
     module _ (h : Heard s (m .client .0) (Full m)) where
+      -- the set with the replica that told
       abbrev told-set : ℕ
       told-set = withReplica (h .set) (h .message .replica .0)
 

@@ -37,10 +37,11 @@ one-plan s held e r r′ p q = one-outcome (planOf s held e) r r′ p q
 abbrev three : Work → Sight
 three work = record { replicas = 3; power = 0b111; party = partyAt 1 work; pair = freshPair }
 
--- it has asked to read cell 0 and replica 0 has told; now replica 1 tells
+-- it has asked to read cell 0, and replica 0 has told
 abbrev asking : Work
 asking = Asking (record { 0 = 0 }) Read 0b001 (pairOf 1 0 5)
 
+-- now replica 1 tells it a pair with a greater stamp
 abbrev telling : Held
 telling = Full (messageOf (record { 0 = 0 }) (record { 0 = 1 }) (record { 0 = 0 }) 1 (Tell (pairOf 2 1 6)))
 

@@ -32,6 +32,7 @@ use Rattle.method.specs.declared.Outcome.the-variants.{No, Go}
 
 -- ---- plans
 
+-- a message between a client and a replica, about a cell, for an operation number
 abbrev pub messageOf : Client → Replica → Cell → ℕ → Body → Message
 messageOf client replica cell op body = record { client = client; replica = replica; cell = cell; op = op; body = body }
 
@@ -133,6 +134,7 @@ tellIn (Asking cell goal set held) s m q =
     cond (hasReplica set (m .replica .0)) (usedUp s m) (tellCounts s m cell goal (withReplica set (m .replica .0)) (holds set held q))
 tellIn (Keeping cell goal set held) s m q = usedUp s m
 
+-- a tell counts only if the client isn't stopped and the operation number is that of its open operation; else it is used up
 unfoldable pub tellOf : Sight → Message → Pair → Outcome
 tellOf s m q = cond (current (s .party) m) (tellIn (s .party .work) s m q) (usedUp s m)
 
@@ -150,16 +152,18 @@ keptIn (Asking cell goal set held) s m = usedUp s m
 keptIn (Keeping cell goal set held) s m =
     cond (hasReplica set (m .replica .0)) (usedUp s m) (keptCounts s m cell goal (withReplica set (m .replica .0)) held)
 
+-- a kept counts only if the client isn't stopped and the operation number is that of its open operation; else it is used up
 unfoldable pub keptOf : Sight → Message → Outcome
 keptOf s m = cond (current (s .party) m) (keptIn (s .party .work) s m) (usedUp s m)
 
--- the message is taken out, then acted on
+-- the message is acted on: an ask or a keep by the replica, a tell or a kept by the client
 unfoldable pub deliverIn : Body → Sight → Message → Outcome
 deliverIn Ask s m = askOf s m
 deliverIn (Tell q) s m = tellOf s m q
 deliverIn (Keep q) s m = keepOf s m q
 deliverIn Kept s m = keptOf s m
 
+-- deliver a slot: the message is taken out, then acted on
 unfoldable pub deliverOf : Sight → Message → Outcome
 deliverOf s m = deliverIn (m .body) s m
 

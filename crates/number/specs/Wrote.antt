@@ -12,6 +12,7 @@ pub record Long (numbers : List ℕ) (most : ℕ) (r : ℕ) : Type 0 where
   pub is : r ≡ length numbers
   pub few : r ≤ most
 
+-- from place at on the numbers stand in the list, next is the place after them, and all else is as it was before
 pub record Wrote (before : List ℕ) (at : ℕ) (numbers : List ℕ) (next : ℕ) (after : List ℕ) : Type 0 where
   pub place : next ≡ at + length numbers
   pub list : after ≡ sets before at numbers

@@ -229,6 +229,7 @@ module _ (s : List ℕ) (m : ℕ) where
       (λ next st′. heldFrom (λ i. ltb i (length s)) (entryAt s) left next (n + 1) st′)
       (λ e next l. held-enough left next (n + 1) (standingAfter st e) (omega arith)) (entryAt s at) refl)
 
+-- the most bytes that 2,048 entries take, 8 each, and one more
 abbrev pub byteLimit : ℕ
 byteLimit = 16385
 

@@ -97,6 +97,7 @@ module _ (kinds cells values starts : List ℕ) (n : ℕ) (ops : List Op) (long 
       (only : (y : Op) → In y ops → y .client ≡ k → y .over ≡ false → y ≡ o)
       (kind cell value start : ℕ) (known : kind ≡ cond (o .write) 3 2) (of : cell ≡ o .cell) (from : start ≡ o .number)
       (kept : o .write ≡ true → v (o .value) ≡ o .value) (given : o .write ≡ false → value ≡ alternatingOf (v (o .value))) where
+    -- the open operation, finished by entry n
     abbrev closed : Op
     closed = finished n (v (o .value)) o
 

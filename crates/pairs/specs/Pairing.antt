@@ -27,6 +27,7 @@ use Rattle.pairs.specs.Next.{OpenAt, paired-next, open-next}
 
 -- ---- entries before what is held after them
 
+-- a list of entries before what is held after them; a fault stays as it is
 unfoldable pub prepend : List Entry → Held → Held
 prepend [] h = h
 prepend (e ∷ es) h = before e (prepend es h)
@@ -47,6 +48,7 @@ follows-next st (x ∷ es) e f r z = (f .0, f .1, follows-next (standingAfter st
 
 -- ---- the arrays
 
+-- n entries are read without a fault, and the arrays hold their operations; by client, opened has where an open one starts
 pub record Pairing (s kinds cells values starts opened : List ℕ) (st : Standing) (at n : ℕ) : Type 0 where
   pub counting : Counting (λ i. ltb i (length s)) (entryAt s) (λ e. 1) (recordOf s) at n n st
   pub read : List Entry

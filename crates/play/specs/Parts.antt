@@ -86,12 +86,15 @@ module _ (s : List ℕ) (allowance : ℕ) (whole : Ran) (r : Rack) (done at : �
 
     -- n events of those filled in are run
     module _ (n : ℕ) (least : n ≡ min (allowance - done) (f .count)) where
+      -- the words of all events from place at on
       abbrev ws : List ℕ
       ws = wordsOf (eventsFrom s at)
 
+      -- the words of the first 512 of these events
       abbrev xs : List ℕ
       xs = wordsUpTo 512 (eventsFrom s at)
 
+      -- the words of the events after those 512
       abbrev rest : List ℕ
       rest = wordsOf (eventsFrom s (placeAfter 512 at (eventsFrom s at)))
 

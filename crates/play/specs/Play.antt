@@ -19,6 +19,7 @@ startedOf made allowance words = cond (eqb (made .refusal) 0) (runOf (made .rack
 unfoldable pub playedOf : List ℕ → ℕ → ℕ → ℕ → ℕ → ℕ → Ran
 playedOf s replicas clients cells allowance first = startedOf (madeOf replicas clients cells) allowance (wordsOf (eventsFrom s first))
 
+-- the line of the first fault, or the lines of the run of a script that has none
 abbrev pub textAfter : List ℕ → Words → List ℕ
 textAfter s (Refused refusal byte) = faultLine refusal byte
 textAfter s (Are replicas clients cells allowance first) = ranText (playedOf s replicas clients cells allowance first)

@@ -22,9 +22,11 @@ use Rattle.promise.specs.Slot.{pairs-same}
 use Rattle.promise.specs.Moves.{Moved}
 
 module _ (r : Rack) (e : Event) (p : Plan) (v : View) (name : ℕ → ℕ → ℕ) (t : Tie r v name) where
+  -- the setting of this rack: its sets of replicas, its majorities and its stamps
   abbrev S : Setting
   S = settingOf (r .sizes .replicas)
 
+  -- the client that the event is about
   abbrev client : ℕ
   client = lookedClient r e
 

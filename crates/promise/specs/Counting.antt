@@ -32,9 +32,11 @@ use Rattle.promise.specs.Moves.{Moved, moved, moved-on}
 use Rattle.promise.specs.Advance.{advance, book-on, no-note, sends-none}
 
 module _ (r : Rack) (e : Event) (p : Plan) (v : View) (name : ℕ → ℕ → ℕ) (t : Tie r v name) (l : Looked r e) where
+  -- the setting of this rack: its sets of replicas, its majorities and its stamps
   abbrev S : Setting
   S = settingOf (r .sizes .replicas)
 
+  -- the client that the event is about
   abbrev client : ℕ
   client = lookedClient r e
 
@@ -43,10 +45,11 @@ module _ (r : Rack) (e : Event) (p : Plan) (v : View) (name : ℕ → ℕ → �
   o = name client (opOf r client)
 
   module _ (h : Counted (sight r e) client (lookedHeld r e)) where
-    -- before and after the kept
+    -- the operation before the kept
     abbrev keeping : Op
     keeping = openAt 2 o client (h .cell) (h .goal) (h .set) (h .pair)
 
+    -- the operation after the kept: this replica is in its set
     abbrev kept : Op
     kept = openAt 2 o client (h .cell) (h .goal) (countedSet h) (h .pair)
 
@@ -64,6 +67,7 @@ module _ (r : Rack) (e : Event) (p : Plan) (v : View) (name : ℕ → ℕ → �
 
     -- ---- the kept is counted
 
+    -- the view after the operation has counted the kept
     abbrev pub countedView : View
     countedView = changed v o (counted S (v .ops o) (h .message .replica .0)) (v .now)
 
@@ -74,6 +78,7 @@ module _ (r : Rack) (e : Event) (p : Plan) (v : View) (name : ℕ → ℕ → �
 
     -- ---- enough have kept
 
+    -- the view after the operation has then ended, at the place of its end entry
     abbrev pub endedView : View
     endedView = changed countedView o (ended (countedView .ops o) (v .now)) (suc (v .now))
 

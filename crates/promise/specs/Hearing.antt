@@ -31,9 +31,11 @@ use Rattle.promise.specs.Moves.{Moved, moved, moved-on}
 use Rattle.promise.specs.Advance.{advance, book-on, no-note, sends-none}
 
 module _ (r : Rack) (e : Event) (p : Plan) (v : View) (name : ℕ → ℕ → ℕ) (t : Tie r v name) (l : Looked r e) (z : Sized (r .sizes)) where
+  -- the setting of this rack: its sets of replicas, its majorities and its stamps
   abbrev S : Setting
   S = settingOf (r .sizes .replicas)
 
+  -- the client that the event is about
   abbrev client : ℕ
   client = lookedClient r e
 
@@ -42,10 +44,11 @@ module _ (r : Rack) (e : Event) (p : Plan) (v : View) (name : ℕ → ℕ → �
   o = name client (opOf r client)
 
   module _ (h : Heard (sight r e) client (lookedHeld r e)) where
-    -- before and after the tell
+    -- the operation before the tell
     abbrev asking : Op
     asking = openAt 1 o client (h .cell) (h .goal) (h .set) (h .pair)
 
+    -- the operation after the tell: this replica is in its set, and it holds the pair that is then held
     abbrev told : Op
     told = openAt 1 o client (h .cell) (h .goal) (heardSet h) (h .after)
 
@@ -71,6 +74,7 @@ module _ (r : Rack) (e : Event) (p : Plan) (v : View) (name : ℕ → ℕ → �
 
     -- ---- the tell is counted
 
+    -- the view after the operation has counted the tell
     abbrev pub heardView : View
     heardView = changed v o (heard S (v .ops o) (h .message .replica .0) (pairOf (h .told))) (v .now)
 
@@ -83,6 +87,7 @@ module _ (r : Rack) (e : Event) (p : Plan) (v : View) (name : ℕ → ℕ → �
 
     -- ---- enough have told
 
+    -- the view after the operation has then chosen the pair that it sends to be kept
     abbrev pub choseView : View
     choseView = changed heardView o (keeping S (heardView .ops o)) (v .now)
 

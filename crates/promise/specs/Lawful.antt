@@ -34,6 +34,7 @@ bound (y ∷ l) =
     (suc (y .cell + w .0), λ x m. ⊎-elim (λ e. rw e (omega arith)) (λ n. let h = w .1 x n in omega arith) (mem-cons m))
 
 module _ (ops : ℕ → Op) (es : List Entry) (b : Book ops (operations es)) (t : Tagged ops) where
+  -- the operations of the record
   abbrev all : List Operation
   all = operations es
 

@@ -81,9 +81,11 @@ recorded-long (Ended x) count lines = length-set lines count (record { entry = x
 
 module _ (r : Rack) (e : Event) (p : Plan) (v : View) (name : ℕ → ℕ → ℕ) (t : Tie r v name) (there : lookedClient r e < 8)
     (w : View) (name' : ℕ → ℕ → ℕ) (n : Next r e p v name w name') where
+  -- the setting of this rack: its sets of replicas, its majorities and its stamps
   abbrev S : Setting
   S = settingOf (r .sizes .replicas)
 
+  -- the client that the event is about
   abbrev client : ℕ
   client = lookedClient r e
 

@@ -27,9 +27,11 @@ use Rattle.promise.specs.Next.{Sends, says-sends, at-still, Next}
 use Rattle.promise.specs.Slot.{Found, found, pairs-same}
 
 module _ (r : Rack) (e : Event) (p : Plan) (v : View) (name : ℕ → ℕ → ℕ) (t : Tie r v name) (l : Looked r e) where
+  -- the setting of this rack: its sets of replicas, its majorities and its stamps
   abbrev S : Setting
   S = settingOf (r .sizes .replicas)
 
+  -- the client that the event is about
   abbrev client : ℕ
   client = lookedClient r e
 

@@ -49,6 +49,7 @@ within-more n s k e h = below-within n (withReplica s k) (with-below n s k (with
 
 -- ---- the setting
 
+-- sets of n replicas and majorities of them; a stamp is the number 256 * number + rank
 abbrev pub settingOf : ℕ → Setting
 settingOf n =
     record {

@@ -34,9 +34,11 @@ use Rattle.promise.specs.Moves.{Moved, moved}
 
 module _ (r : Rack) (e : Event) (p : Plan) (v : View) (name : ℕ → ℕ → ℕ) (t : Tie r v name) (l : Looked r e) (z : Sized (r .sizes)) (room : r .count < entryLimit)
     (q : Starts (sight r e) (lookedClient r e) p) where
+  -- the setting of this rack: its sets of replicas, its majorities and its stamps
   abbrev S : Setting
   S = settingOf (r .sizes .replicas)
 
+  -- the client that the event is about
   abbrev client : ℕ
   client = lookedClient r e
 
@@ -48,12 +50,15 @@ module _ (r : Rack) (e : Event) (p : Plan) (v : View) (name : ℕ → ℕ → �
   abbrev k : ℕ
   k = opOf r client + 1
 
+  -- the operation that starts: it asks, its set is empty and it holds nothing
   abbrev new : Op
   new = openAt 1 o client (q .cell) (q .goal) 0 freshPair
 
+  -- the view after the start: the record has one entry more
   abbrev pub startedView : View
   startedView = changed v o new (suc o)
 
+  -- the client's new operation number names the operation that starts; all other names stay
   abbrev pub startedName : ℕ → ℕ → ℕ
   startedName = named name client k o
 
@@ -109,6 +114,7 @@ module _ (r : Rack) (e : Event) (p : Plan) (v : View) (name : ℕ → ℕ → �
 
   -- ---- the record
 
+  -- the entry that the record gets
   abbrev entry : Entry
   entry = firstEntry (q .goal) (record { 0 = client }) (q .cell)
 

@@ -36,22 +36,27 @@ use Rattle.promise.specs.Slot.{Found, found}
 
 module _ (r : Rack) (e : Event) (p : Plan) (v : View) (name : ℕ → ℕ → ℕ) (t : Tie r v name) (l : Looked r e) (z : Sized (r .sizes))
     (h : Takes (sight r e) (lookedClient r e) (lookedHeld r e) p) where
+  -- the setting of this rack: its sets of replicas, its majorities and its stamps
   abbrev S : Setting
   S = settingOf (r .sizes .replicas)
 
+  -- the client that the event is about
   abbrev client : ℕ
   client = lookedClient r e
 
+  -- the keep that is delivered
   abbrev m : Message
   m = h .message
 
-  -- the operation, the replica and the cell of the keep
+  -- the operation of the keep
   abbrev o : ℕ
   o = name client (m .op)
 
+  -- the replica that is given the keep
   abbrev k : ℕ
   k = m .replica .0
 
+  -- the cell that the keep is about
   abbrev x : ℕ
   x = m .cell .0
 
@@ -64,9 +69,11 @@ module _ (r : Rack) (e : Event) (p : Plan) (v : View) (name : ℕ → ℕ → �
   inv : Invariant S v
   inv = reached-keeps S (t .reached)
 
+  -- the replica's pair for that cell, raised by the one given
   abbrev moved : Seen
   moved = raised (v .pair k x) (pairOf (h .given))
 
+  -- the view after the replica has that pair
   abbrev pub taken : View
   taken = stored v k x moved
 

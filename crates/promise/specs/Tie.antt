@@ -36,10 +36,12 @@ use Rattle.promise.specs.Setting.{settingOf}
 abbrev pub pairOf : Pair → Seen
 pairOf p = record { stamp = stampOf (p .stamp); value = p .value }
 
+-- whether the operation is a write
 abbrev pub writes : Goal → Bool
 writes Read = false
 writes (Write v) = true
 
+-- the value that a write asks for, 0 for a read
 abbrev pub valueOf : Goal → ℤ
 valueOf Read = pos 0
 valueOf (Write v) = v
@@ -55,6 +57,7 @@ openWith phase o client cell goal set held =
       stop = 0;
     }
 
+-- the same with the rack's pair held
 abbrev pub openAt : ℕ → ℕ → ℕ → Cell → Goal → ℕ → Pair → Op
 openAt phase o client cell goal set held = openWith phase o client cell goal set (pairOf held)
 
@@ -127,6 +130,7 @@ pub record Long (r : Rack) : Type 0 where
   pub pairs : length (r .pairs) ≡ 240
   pub lines : length (r .lines) ≡ entryLimit
 
+-- the view v stands for the rack r, and name says which operation of it a client's operation number is
 pub record Tie (r : Rack) (v : View) (name : ℕ → ℕ → ℕ) : Type 0 where
   pub long : Long r
   -- legal moves lead to the view

@@ -36,6 +36,7 @@ means-stays S v w h g o k x Kept m = kept-stays v w g o k m
 
 -- what holds of every message on a wire holds after an event: of what stayed, and of what was sent
 module _ (P : Message → Type 0) where
+  -- P holds of every message on the wire
   abbrev All : List Slot → Type 0
   All w = (i : ℕ) → InSlot P (heldIn w i)
 

@@ -31,15 +31,18 @@ one =
 
 -- ---- client 0 writes 9 to cell 0, as operation 0
 
+-- stamp (1, 0), which is 2, and value 9
 abbrev nine : Pair
 nine = record { stamp = 2; value = pos 9 }
 
+-- the write has started
 abbrev asked : View
 asked = after one fresh (start 0 0 0 true (pos 9))
 
 asked-reached : Reached one asked
 asked-reached = then first (start 0 0 0 true (pos 9)) (refl, (omega arith, λ i e p. absurd (omega arith)))
 
+-- replica 0 has told, and the write has chosen its pair
 abbrev chose : View
 chose = after one (after one asked (hear 0 0 (asked .pair 0 0))) (choose 0)
 
@@ -47,6 +50,7 @@ chose-reached : Reached one chose
 chose-reached =
     then (then asked-reached (hear 0 0 (asked .pair 0 0)) (refl, tell-true one asked (reached-keeps one asked-reached) 0 0 (omega arith))) (choose 0) (refl, refl)
 
+-- replica 0 has kept that pair, and the write has ended
 abbrev wrote : View
 wrote = after one (after one (after one chose (take 0 0 0 nine)) (count 0 0)) (finish 0)
 
@@ -57,6 +61,7 @@ wrote-reached =
 
 -- ---- client 1 reads cell 0, as operation 1
 
+-- the read has started
 abbrev asked' : View
 asked' = after one wrote (start 1 1 0 false (pos 0))
 
@@ -71,6 +76,7 @@ asked'-reached = then wrote-reached (start 1 1 0 false (pos 0)) (refl, (omega ar
         go true q = rw q (omega arith)
         go false q = absurd (let z : 1 ≤ 0 = rw q at p in omega arith)
 
+-- replica 0 has told, and the read has chosen the pair told
 abbrev chose' : View
 chose' = after one (after one asked' (hear 1 0 (asked' .pair 0 0))) (choose 1)
 
@@ -78,6 +84,7 @@ chose'-reached : Reached one chose'
 chose'-reached =
     then (then asked'-reached (hear 1 0 (asked' .pair 0 0)) (refl, tell-true one asked' (reached-keeps one asked'-reached) 1 0 (omega arith))) (choose 1) (refl, refl)
 
+-- replica 0 has kept that pair, and the read has ended
 abbrev pub read : View
 read = after one (after one (after one chose' (take 1 0 0 nine)) (count 1 0)) (finish 1)
 

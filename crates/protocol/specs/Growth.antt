@@ -18,6 +18,7 @@ pub record Grown (now : ℕ) (a b : Op) : Type 0 where
   -- what ends doesn't end in the past
   pub ends : 3 ≤ b .phase → (3 ≤ a .phase) ⊎ (now ≤ b .stop)
 
+-- every operation of f may become the one of g with its number, where it was the time t
 abbrev pub Grows : ℕ → (ℕ → Op) → (ℕ → Op) → Type 0
 Grows t f g = (i : ℕ) → Grown t (f i) (g i)
 

@@ -42,6 +42,7 @@ Ordered a b =
 abbrev pub Turns : ℕ → Op → ℕ → Op → Type 0
 Turns i a j b = 1 ≤ a .phase → 1 ≤ b .phase → a .call .client ≡ b .call .client → i ≢ j → Before a b ⊎ Before b a
 
+-- what holds of every view that is reached, and makes stamps follow time
 pub record Invariant (S : Setting) (v : View) : Type 0 where
   -- every replica has the fresh pair or one that a write of that cell chose
   pub pairs : (r c : ℕ) → Minted (v .ops) c (v .pair r c)

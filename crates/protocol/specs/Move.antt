@@ -7,6 +7,7 @@ use lib.IntN.{ℤ, pos}
 use Rattle.protocol.specs.View.{Setting, Pair, zeroPair, Call, Op, View}
 use Rattle.protocol.specs.Message.{Tell, Keep, Kept}
 
+-- what may happen to a view, move by move: o is an operation by its number, r a replica
 pub data Move : Type 0 where
   -- operation o starts
   start : (o client cell : ℕ) (write : Bool) (value : ℤ) → Move
@@ -56,9 +57,11 @@ raised own given = cond (newer own given) given own
 
 -- ---- the operation after each move
 
+-- an operation that has just started has an empty set and holds nothing
 abbrev pub begun : Call → Op
 begun call = record { phase = 1; call = call; set = 0; held = zeroPair; stop = 0 }
 
+-- the replica that told is in the set, and the pair is the one then held
 abbrev pub heard : Setting → Op → ℕ → Pair → Op
 heard S x r told = record { phase = x .phase; call = x .call; set = S .join (x .set) r; held = heldOf x told; stop = x .stop }
 
@@ -66,9 +69,11 @@ heard S x r told = record { phase = x .phase; call = x .call; set = S .join (x .
 abbrev pub keeping : Setting → Op → Op
 keeping S x = record { phase = 2; call = x .call; set = 0; held = chosenOf S x; stop = x .stop }
 
+-- the replica that kept is in the set
 abbrev pub counted : Setting → Op → ℕ → Op
 counted S x r = record { phase = x .phase; call = x .call; set = S .join (x .set) r; held = x .held; stop = x .stop }
 
+-- the operation is over at this time; its set and its pair stay
 abbrev pub ended : Op → ℕ → Op
 ended x time = record { phase = 3; call = x .call; set = x .set; held = x .held; stop = time }
 
@@ -98,7 +103,7 @@ after S v (finish o) = changed v o (ended (v .ops o) (v .now)) (suc (v .now))
 
 -- ---- runs
 
--- no operation has begun, every replica has the fresh pair, the record is empty
+-- an operation that has not begun
 abbrev pub nothing : Op
 nothing =
     record {
@@ -109,6 +114,7 @@ nothing =
       stop = 0;
     }
 
+-- no operation has begun, every replica has the fresh pair, the record is empty
 abbrev pub fresh : View
 fresh = record { ops = λ i. nothing; pair = λ r c. zeroPair; now = 0 }
 

@@ -21,6 +21,7 @@ Gives ops x =
     ((tag x ≡ 0) × (x .held .value ≡ pos 0))
     ⊎ ((w : ℕ) × (T (chosen (ops w)) × ((ops w .call .write ≡ true) × ((ops w .call .cell ≡ x .call .cell) × ((tag (ops w) ≡ tag x) × (ops w .call .value ≡ x .held .value))))))
 
+-- stamps are tags of the operations, cell by cell
 pub record Tagged (ops : ℕ → Op) : Type 0 where
   -- every ended operation is chosen
   pub all : (i : ℕ) → 3 ≤ ops i .phase → T (chosen (ops i))

@@ -30,7 +30,7 @@ firstIn (Off replica) = replica .0
 firstIn (On replica) = replica .0
 firstIn Unknown = 0
 
--- the cell of a start, and the value of a write as it stands in a record; 0 where there is none
+-- the cell of a start; 0 where there is none
 unfoldable pub cellIn : Event → ℕ
 cellIn (StartRead client cell) = cell .0
 cellIn (StartWrite client cell v) = cell .0
@@ -43,6 +43,7 @@ cellIn (Off replica) = 0
 cellIn (On replica) = 0
 cellIn Unknown = 0
 
+-- the value of a write as it stands in a record; 0 where there is none
 unfoldable pub valueIn : Event → ℕ
 valueIn (StartRead client cell) = 0
 valueIn (StartWrite client cell v) = alternatingOf v

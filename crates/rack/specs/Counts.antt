@@ -36,11 +36,12 @@ deliveredBy (Off replica) = 0
 deliveredBy (On replica) = 0
 deliveredBy Unknown = 0
 
--- a count over the events that are done
+-- what is counted of an event if it is done, and of those after it; a refusal ends the count
 unfoldable pub counted : (Event → Plan → ℕ) → Rack → Event → Outcome → (Rack → ℕ) → ℕ
 counted f r e (No k) next = 0
 counted f r e (Go p) next = f e p + next (appliedOf r e p)
 
+-- a count over the events of a schedule that are done, where `left` of the allowance is left
 unfoldable pub countOver : (Event → Plan → ℕ) → ℕ → Rack → List ℕ → ℕ
 countOver f zero r ws = 0
 countOver f (suc left) r [] = 0

@@ -34,19 +34,23 @@ use Rattle.rack.specs.PlanLaws.{keptFor, PlanFits, OutcomeFits, plan-fit
 
 -- ---- what an event looks at
 
--- the slot that it names, and the client and the pair that it looks at
+-- what the slot that it names holds
 abbrev pub lookedHeld : Rack → Event → Held
 lookedHeld r e = heldAt r (slotOf e)
 
+-- its client: the one that it names, else its message's
 abbrev pub lookedClient : Rack → Event → ℕ
 lookedClient r e = clientOf e (lookedHeld r e)
 
+-- that client, as it now stands
 abbrev pub lookedParty : Rack → Event → Party
 lookedParty r e = partyAt r (lookedClient r e)
 
+-- the place of the pair that its message is about
 abbrev pub lookedPlace : Rack → Event → ℕ
 lookedPlace r e = placeIn (lookedHeld r e)
 
+-- the pair that its message is about
 abbrev pub lookedPair : Rack → Event → Pair
 lookedPair r e = getD (r .pairs) (lookedPlace r e) freshPair
 
@@ -54,6 +58,7 @@ lookedPair r e = getD (r .pairs) (lookedPlace r e) freshPair
 abbrev pub sight : Rack → Event → Sight
 sight r e = record { replicas = r .sizes .replicas; power = r .power; party = lookedParty r e; pair = lookedPair r e }
 
+-- what it looks at is there, and names only what the rack has
 pub record Looked (r : Rack) (e : Event) : Type 0 where
   pub slot : slotOf e < slotLimit
   pub client : lookedClient r e < r .sizes .clients
@@ -133,6 +138,7 @@ noted-go (Asked x) taken o p h e = go (ltb entryLimit (taken + 2)) refl e
     go true q w = absurd (let z : _≡_ {A = ℕ} 0 1 = cc in omega arith)
     go false q w = (w, ltb-false entryLimit (taken + 2) q)
 
+-- the plan p passes 11 and 13: the record has room for its entries and the wire has slots for its messages
 pub record Passed (o : Outcome) (taken free : ℕ) (p : Plan) : Type 0 where
   pub same : o ≡ Go p
   pub entries : taken + keptFor (p .note) ≤ entryLimit
@@ -149,6 +155,7 @@ checked-go (Go q) taken room p h e =
 
 -- ---- an event that is done
 
+-- what holds where p is the plan of an event that is done: it is of this rack, and what it leaves and sends fits
 pub record Decided (r : Rack) (e : Event) (p : Plan) : Type 0 where
   pub inside : inRack (r .sizes) e ≡ true
   pub looked : Looked r e

@@ -20,6 +20,7 @@ madeIf t replicas clients cells =
     cond t (record { refusal = 0; rack = freshRack replicas clients cells }) (record { refusal = 1; rack = freshRack 1 1 1 })
 
 module _ (replicas clients cells : ℕ) where
+  -- the three sizes that the maker is given
   abbrev sizes : Sizes
   sizes = record { replicas = replicas; clients = clients; cells = cells }
 

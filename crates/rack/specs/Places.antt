@@ -20,10 +20,11 @@ use Rattle.stamps.specs.Stamp.{freshPair}
 abbrev pub slotLimit : ℕ
 slotLimit = 256
 
--- an empty slot, and one that holds a message
+-- an empty slot
 abbrev pub empty : Slot
 empty = record { held = Empty }
 
+-- a slot that holds a message
 abbrev pub full : Message → Slot
 full m = record { held = Full m }
 
@@ -35,20 +36,23 @@ idle = record { stopped = false; op = 0; work = Idle }
 abbrev pub partyAt : Rack → ℕ → Party
 partyAt r i = getD (r .parties) i idle
 
--- the place of replica k's pair for cell x, and that pair
+-- the place of replica k's pair for cell x
 abbrev pub pairPlace : ℕ → ℕ → ℕ
 pairPlace k x = 16 * k + x
 
+-- replica k's pair for cell x
 abbrev pub pairAt : Rack → ℕ → ℕ → Pair
 pairAt r k x = getD (r .pairs) (pairPlace k x) freshPair
 
--- what slot i holds
+-- what slot i of a wire holds
 abbrev pub heldIn : List Slot → ℕ → Held
 heldIn wire i = getD wire i empty .held
 
+-- what slot i of the rack's wire holds
 abbrev pub heldAt : Rack → ℕ → Held
 heldAt r i = heldIn (r .wire) i
 
+-- whether a slot holds no message
 abbrev pub isEmpty : Held → Bool
 isEmpty Empty = true
 isEmpty (Full m) = false

@@ -56,6 +56,7 @@ pub record PlanFits (z : Sizes) (party : Party) (held : Held) (p : Plan) : Type 
   pub entries : entriesIn (p .note) + owedBy (p .party) ≤ owedBy party + keptFor (p .note)
   pub slot : p .clear ≡ true → isEmpty held ≡ false
 
+-- what holds of an outcome: of a refusal nothing, of a plan that it fits
 abbrev pub OutcomeFits : Sizes → Party → Held → Outcome → Type 0
 OutcomeFits z party held (No k) = Unit {0}
 OutcomeFits z party held (Go p) = PlanFits z party held p
@@ -96,6 +97,7 @@ holds-fits z set held q h hq = go (eqb set 0) refl
 -- ---- an event's outcome, from a client and a pair that fit
 
 module _ (z : Sizes) (n : Sized z) (power : ℕ) (party : Party) (pair : Pair) (work : workFits z (party .work) ≡ true) (here : pairFits z pair ≡ true) where
+  -- what the event looks at: the number of replicas, the power, the client and the pair
   abbrev seen : Sight
   seen = record { replicas = z .replicas; power = power; party = party; pair = pair }
 

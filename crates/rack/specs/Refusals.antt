@@ -38,9 +38,11 @@ use Rattle.rack.specs.Decided.{lookedHeld, sight}
 
 -- ---- the plan's: 3 to 10, and 12
 
+-- a number that a plan may refuse with: 3 to 10, or 12
 abbrev pub PlanRefusal : ℕ → Type 0
 PlanRefusal k = ((3 ≤ k) × (k ≤ 10)) ⊎ (k ≡ 12)
 
+-- an outcome that is a refusal has one of these numbers
 abbrev Refuses : Outcome → Type 0
 Refuses (No k) = PlanRefusal k
 Refuses (Go p) = Unit {0}

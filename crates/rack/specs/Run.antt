@@ -58,6 +58,7 @@ madeOf replicas clients cells =
 unfoldable pub byte : ℕ → Event → Event
 byte a e = cond (ltb a 256) e Unknown
 
+-- 0 start read, 1 start write, 2 deliver, 3 lose, 4 copy, 5 resend, 6 stop, 7 off, 8 on; any other kind is no event
 unfoldable pub eventOf : ℕ → ℕ → ℕ → ℕ → Event
 eventOf kind a b value =
     cond (eqb kind 0) (byte a (byte b (StartRead (record { 0 = a }) (record { 0 = b }))))
@@ -144,15 +145,18 @@ unfoldable pub addressed : Message → List ℕ → List Message
 addressed m [] = []
 addressed m (k ∷ ks) = messageOf (m .client) (record { 0 = k }) (m .cell) (m .op) (m .body) ∷ addressed m ks
 
+-- the wire after the slot became empty, if it does
 unfoldable pub cleared : Bool → ℕ → List Slot → List Slot
 cleared true slot wire = set wire slot empty
 cleared false slot wire = wire
 
+-- the lines after an entry, if there is one, was put at the record's end
 unfoldable pub recorded : Note → ℕ → List Line → List Line
 recorded Nothing count lines = lines
 recorded (Asked e) count lines = set lines count (record { entry = e })
 recorded (Ended e) count lines = set lines count (record { entry = e })
 
+-- how many entries the record gets: one where an operation starts or ends
 unfoldable pub entriesIn : Note → ℕ
 entriesIn Nothing = 0
 entriesIn (Asked e) = 1
@@ -174,6 +178,7 @@ appliedOf r e p =
 
 -- ---- a schedule
 
+-- what a run gives: the number done, the refusal that stopped it or 0 for none, and the rack
 abbrev pub ranOf : ℕ → ℕ → Rack → Ran
 ranOf done refusal r = record { done = done; refusal = refusal; rack = r }
 

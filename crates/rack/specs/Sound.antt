@@ -31,6 +31,7 @@ sizesFit z =
 unfoldable pub pairFits : Sizes → Pair → Bool
 pairFits z p = ltb (p .stamp .rank) (z .clients)
 
+-- the pair of a tell or a keep names a rank that the rack has
 unfoldable pub bodyFits : Sizes → Body → Bool
 bodyFits z Ask = true
 bodyFits z (Tell p) = pairFits z p
@@ -42,6 +43,7 @@ unfoldable pub messageFits : Sizes → Message → Bool
 messageFits z m =
     (ltb (m .client .0) (z .clients) && ltb (m .replica .0) (z .replicas)) && (ltb (m .cell .0) (z .cells) && bodyFits z (m .body))
 
+-- a slot is empty, or its message names only what the rack has
 unfoldable pub heldFits : Sizes → Held → Bool
 heldFits z Empty = true
 heldFits z (Full m) = messageFits z m
@@ -54,19 +56,22 @@ workFits z (Asking cell goal set held) =
 workFits z (Keeping cell goal set held) =
     (ltb (cell .0) (z .cells) && pairFits z held) && (within (z .replicas) set && not (keepsEnough (z .replicas) set))
 
--- answers owed are one for each open operation of a client not stopped
+-- 1 for an open operation, 0 for none
 unfoldable pub owes : Work → ℕ
 owes Idle = 0
 owes (Asking cell goal set held) = 1
 owes (Keeping cell goal set held) = 1
 
+-- a client owes an answer for its open operation unless it is stopped
 unfoldable pub owedBy : Party → ℕ
 owedBy p = cond (p .stopped) 0 (owes (p .work))
 
+-- the answers owed by the clients below n
 unfoldable pub owedBelow : ℕ → Rack → ℕ
 owedBelow zero r = 0
 owedBelow (suc n) r = owedBelow n r + owedBy (partyAt r n)
 
+-- answers owed are one for each open operation of a client not stopped
 unfoldable pub owed : Rack → ℕ
 owed r = owedBelow (r .sizes .clients) r
 

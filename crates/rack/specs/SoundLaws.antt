@@ -22,6 +22,7 @@ use Rattle.rack.specs.Tests.{all-at, all-of}
 
 -- ---- sizes
 
+-- 1 to 15 replicas, 1 to 8 clients and 1 to 16 cells
 pub record Sized (z : Sizes) : Type 0 where
   pub some-replica : 1 ≤ z .replicas
   pub replicas : z .replicas ≤ 15
@@ -59,6 +60,7 @@ sizes-fit z s =
 
 -- ---- messages
 
+-- the message names a client, a replica, a cell and a rank that the rack has
 pub record Named (z : Sizes) (m : Message) : Type 0 where
   pub client : m .client .0 < z .clients
   pub replica : m .replica .0 < z .replicas
@@ -90,6 +92,7 @@ message-fits z m n =
 
 -- ---- open operations
 
+-- in the ask phase: cell x and, once a tell is held, pair p are of this rack, and the set s has its replicas only and no majority
 pub record AskOpen (z : Sizes) (x : Cell) (s : ℕ) (p : Pair) : Type 0 where
   pub cell : x .0 < z .cells
   pub held : (s ≡ 0) ⊎ (pairFits z p ≡ true)
@@ -122,6 +125,7 @@ ask-fits z cell goal set held a =
     (λ p. or-right (eqb set 0) (pairFits z held) p) (a .held)))
     (and-true _ _ (a .set) (ap not (a .few)))
 
+-- in the keep phase: cell x and pair p are of this rack, and the set s has its replicas only and no majority
 pub record KeepOpen (z : Sizes) (x : Cell) (s : ℕ) (p : Pair) : Type 0 where
   pub cell : x .0 < z .cells
   pub held : pairFits z p ≡ true
@@ -151,6 +155,7 @@ keep-fits z cell goal set held a =
 
 -- ---- the whole rack
 
+-- every part is sound: the sizes, the wire, the pairs, the open operations, and entries + answers owed
 pub record Sound (r : Rack) : Type 0 where
   pub sizes : Sized (r .sizes)
   pub slots : (i : ℕ) → i < slotLimit → heldFits (r .sizes) (heldAt r i) ≡ true

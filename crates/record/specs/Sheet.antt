@@ -15,6 +15,7 @@ use Rattle.record.specs.Record.{faultAfter, standingAfter, entries, faul
 abbrev pub sheetBytes : List ℕ
 sheetBytes = 0x01 ∷ 0x00 ∷ 0x02 ∷ 0x0A ∷ 0x03 ∷ 0x00 ∷ 0x00 ∷ 0x01 ∷ 0x02 ∷ 0x02 ∷ 0x01 ∷ 0x0A ∷ []
 
+-- the four entries of those bytes
 abbrev pub sheetEntries : List Entry
 sheetEntries =
     WriteAsked (record { 0 = 0 }) (record { 0 = 2 }) (pos 5)

@@ -71,6 +71,7 @@ room-after r e p d l =
 
 -- ---- what the loop knows at event i: the run from here is the whole run, and the rack is sound; its free slots and its answers owed are at hand
 
+-- i events were done and left the sound rack r: running on from it gives the whole run; free and room are its free slots
 pub record Going (self : Rack) (allowance : ℕ) (ws : List ℕ) (r : Rack) (free : List ℕ) (room i : ℕ) : Type 0 where
   pub steps : runFrom 0 self allowance ws ≡ runFrom i r (allowance - i) (drop (4 * i) ws)
   pub sound : soundOf r ≡ true

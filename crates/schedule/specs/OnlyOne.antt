@@ -20,6 +20,7 @@ use Rattle.schedule.specs.Steps.{run-steps, sound-from}
 
 -- ---- run, step
 
+-- two answers with the same number done, the same refusal and the same rack
 pub record SameRan (r r′ : Ran) : Type 0 where
   pub done : r .done ≡ r′ .done
   pub refusal : r .refusal ≡ r′ .refusal
@@ -83,6 +84,7 @@ done-leaves s allowance ws q p = rw p (run-steps s allowance ws .same)
 
 -- ---- a delivery from a slot that is empty
 
+-- slot 0 of a fresh rack is delivered
 abbrev Delivers : Ran → Type 0
 Delivers q = q ≡ runOf (freshRack 3 1 1) 1 (2 ∷ 0 ∷ 0 ∷ 0 ∷ [])
 

@@ -57,10 +57,12 @@ owed-store n i ps p h = go (ltb i (length ps)) refl
 
 -- ---- messages that are sent fit
 
+-- every message of the list names only what the rack has
 abbrev AllFit : Sizes → List Message → Type 0
 AllFit z [] = Unit {0}
 AllFit z (m ∷ ms) = (messageFits z m ≡ true) × AllFit z ms
 
+-- every number of the list is below n
 abbrev AllLess : ℕ → List ℕ → Type 0
 AllLess n [] = Unit {0}
 AllLess n (k ∷ ks) = (k < n) × AllLess n ks

@@ -20,6 +20,7 @@ unfoldable pub andThen : ℕ → Number → (ℕ → ℕ → Words) → Words
 andThen at (NoNumber k) go = Refused k at
 andThen at (Is n next) go = go n next
 
+-- the number at a place of the script, or its refusal
 abbrev pub reading : List ℕ → ℕ → (ℕ → ℕ → Words) → Words
 reading s at go = andThen at (numberAt s at) go
 
@@ -29,6 +30,7 @@ lastAt s at x y z = reading s at (λ n next. Are x y z n next)
 
 -- ---- the head: replicas, clients, cells, allowance
 
+-- the three sizes of the rack and the allowance, one after another from the first byte on
 unfoldable pub headOf : List ℕ → Words
 headOf s =
     reading s 0 (λ replicas a.
@@ -58,6 +60,7 @@ pub data Events : Type 0 where
   fault : (refusal byte : ℕ) → Events
   event : (kind a b value next : ℕ) → Events → Events
 
+-- an event and those after it, or a fault and nothing more
 unfoldable pub enter : Words → (ℕ → Events) → Events
 enter (Refused k byte) rest = fault k byte
 enter (Are kind a b value next) rest = event kind a b value next (rest next)
@@ -67,6 +70,7 @@ unfoldable pub eventsIn : ℕ → List ℕ → ℕ → Events
 eventsIn zero s at = none
 eventsIn (suc left) s at = cond (ltb at (length s)) (enter (eventAt s at) (λ next. eventsIn left s next)) none
 
+-- the events from a place on up to the end of the bytes
 abbrev pub eventsFrom : List ℕ → ℕ → Events
 eventsFrom s at = eventsIn (length s - at) s at
 
@@ -78,6 +82,7 @@ unlessFault none w = w
 unlessFault (fault k byte) w = Refused k byte
 unlessFault (event kind a b value next es) w = unlessFault es w
 
+-- a head that could be read, unless an event after it has a fault
 abbrev pub checkedAfter : List ℕ → Words → Words
 checkedAfter s (Refused k byte) = Refused k byte
 checkedAfter s (Are replicas clients cells allowance first) = unlessFault (eventsFrom s first) (Are replicas clients cells allowance first)

@@ -36,16 +36,19 @@ pub record Says (bytes : List ℕ) (es : List Entry) (v : Verdict) : Type 0 wher
   pub right : Judges (takenFor bytes) v
   pub only : (w : Verdict) → Judges (takenFor bytes) w → w ≡ v
 
+-- the judge finds every cell lawful
 abbrev pub lawful : Verdict
 lawful = saysLawful
 
+-- the judge names the lowest unlawful cell
 abbrev pub unlawful : ℕ → Verdict
 unlawful cell = saysUnlawful (record { 0 = cell })
 
--- an event in four words: client 0 starts a write of 9, which stands as 18, to cell 0; a slot is delivered
+-- an event in four words: client 0 starts a write of 9, which stands as 18, to cell 0
 abbrev start : List ℕ
 start = 1 ∷ 0 ∷ 0 ∷ 18 ∷ []
 
+-- an event in four words: a slot is delivered
 abbrev deliver : ℕ → List ℕ
 deliver slot = 2 ∷ slot ∷ 0 ∷ 0 ∷ []
 
@@ -71,6 +74,7 @@ slots r = heldAt r 0 ∷ heldAt r 1 ∷ heldAt r 2 ∷ heldAt r 3 ∷ heldAt r 4
 
 -- ---- the table
 
+-- the starred lines, in the paper's words and order
 pub record Sheet : Type 0 where
   -- * 127 is 7F, 128 is 80 01, 300 is AC 02, 4,294,967,295 is FF FF FF FF 0F.
   pub number-127 : numberBytes 127 ≡ 0x7F ∷ []

@@ -36,44 +36,53 @@ pairText p = decimal (p .stamp .number) ++ (field dot (p .stamp .rank) ++ (equal
 
 -- ---- a slot's line: full slots only; tell and keep end with the pair
 
+-- the word for a message: ask, tell, keep or kept
 abbrev pub kindText : Body → List ℕ
 kindText Ask = askWord
 kindText (Tell p) = tellWord
 kindText (Keep p) = keepWord
 kindText Kept = keptWord
 
+-- the pair of a tell or a keep; nothing for the others
 abbrev pub bodyPair : Body → List ℕ
 bodyPair Ask = []
 bodyPair (Tell p) = pairWord ++ pairText p
 bodyPair (Keep p) = pairWord ++ pairText p
 bodyPair Kept = []
 
+-- client, replica, cell and operation number, each after its word
 abbrev pub namesText : ℕ → ℕ → ℕ → ℕ → List ℕ
 namesText client replica cell op = field clientWord client ++ (field replicaWord replica ++ (field cellWord cell ++ field opWord op))
 
+-- a message: its word, whom and what it names, and its pair
 abbrev pub messageText : Message → List ℕ
 messageText m = kindText (m .body) ++ (namesText (m .client .0) (m .replica .0) (m .cell .0) (m .op) ++ bodyPair (m .body))
 
+-- slot i and its message; an empty slot has no line
 abbrev pub slotLine : ℕ → Held → List ℕ
 slotLine i Empty = []
 slotLine i (Full m) = field slotStart i ++ (messageText m ++ lineFeed)
 
 -- ---- a client's line
 
+-- read, or write and the value
 abbrev pub goalText : Goal → List ℕ
 goalText Read = readWord
 goalText (Write v) = writeWord ++ valueText v
 
--- the members of a set, a space before each; " none" where there is none
+-- replica k with a space before it, if the set has it
 abbrev pub memberText : ℕ → ℕ → List ℕ
 memberText set k = cond (hasReplica set k) (field space k) []
 
+-- the members of a set, a space before each; " none" where there is none
 abbrev pub membersText : ℕ → List ℕ
 membersText set = cond (eqb set 0) fromNone (eachBelow 16 (λ k. memberText set k))
 
+-- an open operation: read or write, cell, operation number, and the replicas that have answered
 abbrev pub openText : ℕ → ℕ → Goal → ℕ → List ℕ
 openText op cell goal set = goalText goal ++ (field cellWord cell ++ (field opWord op ++ (fromWord ++ membersText set)))
 
+-- the pair that is held, after its word
 abbrev pub heldText : Pair → List ℕ
 heldText p = heldWord ++ pairText p
 
@@ -81,32 +90,39 @@ heldText p = heldWord ++ pairText p
 abbrev pub firstHeld : ℕ → Pair → List ℕ
 firstHeld set p = cond (eqb set 0) heldNone (heldText p)
 
+-- idle, asking or keeping, with the open operation and the pair held
 abbrev pub workText : ℕ → Work → List ℕ
 workText op Idle = field idleWords op
 workText op (Asking cell goal set held) = askingWord ++ (openText op (cell .0) goal set ++ firstHeld set held)
 workText op (Keeping cell goal set held) = keepingWord ++ (openText op (cell .0) goal set ++ heldText held)
 
+-- a word for a stopped client, nothing for another
 abbrev pub stoppedText : Bool → List ℕ
 stoppedText true = stoppedWord
 stoppedText false = []
 
+-- client i: whether it is stopped, and what it is at
 abbrev pub clientLine : ℕ → Party → List ℕ
 clientLine i p = field clientStart i ++ (stoppedText (p .stopped) ++ (workText (p .op) (p .work) ++ lineFeed))
 
 -- ---- a replica's line: its pair for each cell, a space before each
 
+-- on or off
 abbrev pub powerText : Bool → List ℕ
 powerText true = onWord
 powerText false = offWord
 
+-- replica k's pair for each cell, a space before each
 abbrev pub pairsText : Rack → ℕ → List ℕ
 pairsText r k = eachBelow (r .sizes .cells) (λ x. space ++ pairText (pairAt r k x))
 
+-- replica k: on or off, and its pairs
 abbrev pub replicaLine : Rack → ℕ → List ℕ
 replicaLine r k = field replicaStart k ++ (powerText (hasReplica (r .power) k) ++ (pairsText r k ++ lineFeed))
 
 -- ---- the rack, and a run
 
+-- the rack's sizes: replicas, clients, cells
 abbrev pub sizesLine : Sizes → List ℕ
 sizesLine z = field rackStart (z .replicas) ++ (field space (z .clients) ++ (field space (z .cells) ++ lineFeed))
 
@@ -123,6 +139,7 @@ rackText r =
     ++ (eachBelow slotLimit (λ i. slotLine i (heldAt r i))
     ++ recordLine r)))
 
+-- the number of the refusal, or the word for none
 abbrev pub refusalText : ℕ → List ℕ
 refusalText k = cond (eqb k 0) noneWord (decimal k)
 

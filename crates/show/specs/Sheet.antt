@@ -16,10 +16,11 @@ use Rattle.method.specs.declared.Work.the-variants.{Idle, Asking, Keeping}
 use Rattle.rack.specs.declared.Ran.{Ran}
 use Rattle.show.specs.Lines.{eachBelow, slotLine, clientLine, sizesLine, ranText, faultLine}
 
--- stamp (n, rank) with value 9 or -5
+-- stamp (1, 0) with value 9
 abbrev nine : Pair
 nine = record { stamp = record { number = 1; rank = 0 }; value = pos 9 }
 
+-- stamp (2, 1) with value -5
 abbrev below : Pair
 below = record { stamp = record { number = 2; rank = 1 }; value = negsuc 4 }
 

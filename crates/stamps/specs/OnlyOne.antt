@@ -18,6 +18,7 @@ yes-not-no p q = let z : _≡_ {A = ℕ} 0 1 = cc in omega arith
 
 -- ---- less
 
+-- a number and a client's rank
 abbrev stamp : ℕ → ℕ → Stamp
 stamp number rank = record { number = number; rank = rank }
 
@@ -35,6 +36,7 @@ not-by-rank r p q = yes-not-no p q
 
 -- ---- raise, and raise_in_place: r is the pair that the one gives, and the lent pair after the other
 
+-- stamp (number, rank) with a value that is not below zero
 abbrev pub pairOf : ℕ → ℕ → ℕ → Pair
 pairOf number rank value = record { stamp = stamp number rank; value = pos value }
 

@@ -17,18 +17,23 @@ pub record Arrays : Type 0 where
   pub values : List ℕ
   pub starts : List ℕ
 
+-- the four arrays as one
 abbrev pub arrays : List ℕ → List ℕ → List ℕ → List ℕ → Arrays
 arrays kinds cells values starts = record { kinds = kinds; cells = cells; values = values; starts = starts }
 
+-- the kind of entry p: 0 read asked, 1 write asked, 2 told, 3 done
 abbrev pub kindAt : Arrays → ℕ → ℕ
 kindAt a p = getD (a .kinds) p 0
 
+-- the cell of the operation that entry p starts or ends
 abbrev pub cellAt : Arrays → ℕ → ℕ
 cellAt a p = getD (a .cells) p 0
 
+-- the value of entry p, as the number that it is written as; 0 where it has none
 abbrev pub valueAt : Arrays → ℕ → ℕ
 valueAt a p = getD (a .values) p 0
 
+-- the start entry of the operation that entry p starts or ends
 abbrev pub startAt : Arrays → ℕ → ℕ
 startAt a p = getD (a .starts) p 0
 

@@ -76,6 +76,7 @@ twelve-verdict = no-other sheetBytes refl saysLawful twelve-judged
 
 -- ---- with last byte 00: unlawful cell 2
 
+-- the sheet's bytes with last byte 00
 abbrev pub stale : List ℕ
 stale = 0x01 ∷ 0x00 ∷ 0x02 ∷ 0x0A ∷ 0x03 ∷ 0x00 ∷ 0x00 ∷ 0x01 ∷ 0x02 ∷ 0x02 ∷ 0x01 ∷ 0x00 ∷ []
 

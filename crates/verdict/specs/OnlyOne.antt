@@ -120,6 +120,7 @@ module _ (s : List ℕ) (bytes : (i : ℕ) → getD s i 0 < 256) where
   pub one-verdict : (v v′ : Verdict) → Judges (takenFor s) v → Judges (takenFor s) v′ → v ≡ v′
   one-verdict v v′ p q = only-one (takenFor s) taken-legal v v′ p q
 
+-- two verdicts that say the same, with the same refusal, entry and cell
 pub record SameVerdict (v v′ : Verdict) : Type 0 where
   pub says : caseOf v ≡ caseOf v′
   pub refusal : refusalIn v ≡ refusalIn v′

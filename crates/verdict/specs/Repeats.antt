@@ -19,9 +19,11 @@ use Rattle.verdict.specs.Verdict.{asksFor, askedAmong, repeats, distinct
 use Rattle.verdict.specs.Arrays.{Arrays, cellAt, valueAt, Fresh}
 use Rattle.verdict.specs.Shown.{Shows, AllShow}
 
+-- entry p asks to write v to cell c
 abbrev AsksAt : Arrays → ℕ → ℕ → ℤ → Type 0
 AsksAt a p c v = Asks (a .kinds) (a .cells) (a .values) p c (alternatingOf v)
 
+-- entry p asks to write 0, or what an earlier entry asks for that cell
 abbrev AgainAt : Arrays → ℕ → Type 0
 AgainAt a p = Again (a .kinds) (a .cells) (a .values) p
 
