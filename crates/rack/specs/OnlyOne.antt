@@ -1,11 +1,10 @@
--- Events, soundness and the maker: no other outcome fits a call, and wrong ones do not meet its contract.
+-- What four words mean, soundness and the maker: no other outcome fits a call, and wrong ones do not meet its contract.
 use Prim.Native.Nat.{ℕ}
 use mathlib.Core.Path.{_≡_, refl, ap, sym, _∙_}
 use mathlib.Core.Bool.{Bool, true, false}
 use mathlib.Core.List.{[], _∷_}
 use native.Mathlib.Omega.{arith}
 use lib.Count.{ones}
-use Rattle.record.specs.declared.Entry.the-variants.{Done}
 use Rattle.quorum.specs.Sets.{majority, asksEnough, within}
 use Rattle.method.specs.declared.Body.the-variants.{Ask, Keep, Kept}
 use Rattle.method.specs.declared.Message.{Message}
@@ -16,29 +15,20 @@ use Rattle.method.specs.declared.Work.the-variants.{Asking}
 use Rattle.method.specs.declared.Party.{Party}
 use Rattle.rack.specs.declared.Sizes.{Sizes}
 use Rattle.method.specs.declared.Event.{Event}
-use Rattle.method.specs.declared.Event.the-variants.{StartRead, Deliver, Stop}
-use Rattle.method.specs.declared.Note.{Note}
-use Rattle.method.specs.declared.Note.the-variants.{Nothing, Asked}
-use Rattle.method.specs.declared.Outcome.{Outcome}
-use Rattle.method.specs.declared.Outcome.the-variants.{Go}
 use Rattle.rack.specs.declared.Made.{Made}
-use Rattle.stamps.specs.Stamp.{freshPair}
 use Rattle.method.specs.Plan.{messageOf, partyAt}
 use Rattle.rack.specs.Places.{idle}
 use Rattle.rack.specs.Sound.{sizesFit, pairFits, bodyFits, messageFits, heldFits, workFits, owes, owedBy, soundOf}
 use Rattle.rack.specs.Owed.{owedIn}
-use Rattle.method.specs.About.{clientIn, clientOf}
-use Rattle.rack.specs.Run.{freshRack, madeOf, byte, eventOf, inRack, slotOf, placeIn, noted, freed, checked}
+use Rattle.rack.specs.Run.{freshRack, madeOf, byte, eventOf}
 use Rattle.rack.specs.Fresh.{fresh-sound}
-use Rattle.method.specs.Answers.{refusalIn}
 use Rattle.rack.specs.Answers.{kindIn, firstIn, cellIn, valueIn}
 use Rattle.stamps.specs.OnlyOne.{yes-not-no, pairOf}
-use Rattle.method.specs.OnlyOne.{SameOutcome, one-outcome}
 
--- Every call here but `checked`, `decode` and `made` answers yes or no, or a number: two answers that are both what is stated are the same by `one-answer`
--- of stamps' OnlyOne.
+-- Every call here but `events::decode` and `made` answers yes or no, or a number: two answers that are both what is stated are the same by `one-answer` of
+-- stamps' OnlyOne.
 
--- ---- decode
+-- ---- events::decode
 
 -- two events of the same kind, that name the same, and are one event
 pub record SameEvent (r r′ : Event) : Type 0 where
@@ -62,74 +52,6 @@ pub not-client-256 : (r : Event) → r ≡ eventOf 6 256 0 0 → kindIn r ≡ 6 
 unfolding eventOf byte kindIn
 not-client-256 r p q = let e : kindIn r ≡ 9 = ap kindIn p in omega arith
 
--- ---- in_rack
-
--- three replicas, two clients, one cell
-abbrev sizes : Sizes
-sizes = record { replicas = 3; clients = 2; cells = 1 }
-
-pub not-slot-256 : (r : Bool) → r ≡ inRack sizes (Deliver 256) → r ≡ true → ⊥
-unfolding inRack
-not-slot-256 r p q = yes-not-no q p
-
-pub not-cell-1 : (r : Bool) → r ≡ inRack sizes (StartRead (record { 0 = 1 }) (record { 0 = 1 })) → r ≡ true → ⊥
-unfolding inRack
-not-cell-1 r p q = yes-not-no q p
-
--- ---- slot_of, place_in, client_of
-
--- a keep from client 1 to replica 2 about cell 3
-abbrev message : Message
-message = messageOf (record { 0 = 1 }) (record { 0 = 2 }) (record { 0 = 3 }) 1 (Keep (pairOf 1 0 5))
-
-pub not-slot-0 : (r : ℕ) → r ≡ slotOf (Deliver 5) → r ≡ 0 → ⊥
-unfolding slotOf
-not-slot-0 r p q = omega arith
-
-pub not-next-slot : (r : ℕ) → r ≡ slotOf (Deliver 5) → r ≡ 6 → ⊥
-unfolding slotOf
-not-next-slot r p q = omega arith
-
--- the pair of replica 2 for cell 3 stands at 35, that of replica 3 for cell 2 at 50
-pub not-swapped : (r : ℕ) → r ≡ placeIn (Full message) → r ≡ 50 → ⊥
-unfolding placeIn
-not-swapped r p q = omega arith
-
-pub not-first-place : (r : ℕ) → r ≡ placeIn (Full message) → r ≡ 0 → ⊥
-unfolding placeIn
-not-first-place r p q = omega arith
-
--- a stop is about the client it names, a delivery about its message's
-pub not-the-message : (r : ℕ) → r ≡ clientOf (Stop (record { 0 = 0 })) (Full message) → r ≡ 1 → ⊥
-unfolding clientOf
-not-the-message r p q = omega arith
-
-pub not-the-slot : (r : ℕ) → r ≡ clientOf (Deliver 7) (Full message) → r ≡ 7 → ⊥
-unfolding clientOf clientIn
-not-the-slot r p q = omega arith
-
--- ---- checked
-
-pub one-checked : (o : Outcome) (taken room : ℕ) (r r′ : Outcome) → r ≡ checked o taken room → r′ ≡ checked o taken room → SameOutcome r r′
-one-checked o taken room r r′ p q = one-outcome (checked o taken room) r r′ p q
-
--- a plan that empties its slot or not, adds an entry or none, and sends to three replicas
-abbrev sending : Bool → Note → Outcome
-sending clear note = Go (record { party = idle; pair = freshPair; power = 0b111; clear = clear; note = note; message = message; to = 0b111 })
-
--- a delivered slot counts as free; a slot that stays doesn't; a start needs room for its entry and its answer
-pub not-13-delivered : (r : Outcome) → r ≡ checked (sending true Nothing) 0 2 → refusalIn r ≡ 13 → ⊥
-unfolding checked noted freed ones refusalIn
-not-13-delivered r p q = let e : refusalIn r ≡ 0 = ap refusalIn p in omega arith
-
-pub not-sent-short : (r : Outcome) → r ≡ checked (sending false Nothing) 0 2 → refusalIn r ≡ 0 → ⊥
-unfolding checked noted freed ones refusalIn
-not-sent-short r p q = let e : refusalIn r ≡ 13 = ap refusalIn p in omega arith
-
-pub not-past-2048 : (r : Outcome) → r ≡ checked (sending false (Asked (Done (record { 0 = 0 })))) 2047 9 → refusalIn r ≡ 0 → ⊥
-unfolding checked noted refusalIn
-not-past-2048 r p q = let e : refusalIn r ≡ 11 = ap refusalIn p in omega arith
-
 -- ---- sizes_in
 
 pub not-16-replicas : (r : Bool) → r ≡ sizesFit (record { replicas = 16; clients = 8; cells = 16 }) → r ≡ true → ⊥
@@ -141,6 +63,10 @@ unfolding sizesFit
 not-15-too-many r p q = yes-not-no p q
 
 -- ---- Rack::sound, part by part: pairs, messages, slots
+
+-- three replicas, two clients, one cell
+abbrev pub sizes : Sizes
+sizes = record { replicas = 3; clients = 2; cells = 1 }
 
 -- of two clients there is no rank 2, and there is a rank 1
 pub not-rank-2 : (r : Bool) → r ≡ pairFits sizes (pairOf 1 2 5) → r ≡ true → ⊥

@@ -1,5 +1,4 @@
 // The engine: a rack of replicas, clients and cells joined by a wire, event by event.
-pub mod events;
 pub mod maker;
 pub mod soundness;
 

@@ -12,6 +12,12 @@ ghost use Rattle.rack.specs.Run.{freed, ranOf, runFrom, runOf};
 ghost use Rattle.schedule.specs.Steps.{eventAt};
 ghost use Rattle.schedule.specs.Sending.{slotAfter, messageTo};
 ghost use Rattle.schedule.specs.Loop.{Most};
+use events::checked;
+use events::client_of;
+use events::decode;
+use events::in_rack;
+use events::place_in;
+use events::slot_of;
 use method::Event;
 use method::Held;
 use method::Message;
@@ -23,12 +29,6 @@ use rack::Line;
 use rack::Rack;
 use rack::Ran;
 use rack::Slot;
-use rack::events::checked;
-use rack::events::client_of;
-use rack::events::decode;
-use rack::events::in_rack;
-use rack::events::place_in;
-use rack::events::slot_of;
 use record::Replica;
 
 // ---- the events

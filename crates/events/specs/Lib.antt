@@ -1,0 +1,2 @@
+-- That no other outcome fits a call.
+pub mod OnlyOne
