@@ -1,4 +1,4 @@
-// A rack in lent memory: 11,301 words of 32 bits, laid out as specs/Layout says, and schedules run on it.
+// A rack in lent memory: 11,301 words of 32 bits, laid out as crate layout says, and schedules run on it.
 ghost use mathlib.Core.Path.{_≡_};
 ghost use mathlib.Core.Bool.{true, cond};
 ghost use Prim.Native.Nat.{_+_, _*_, _≤_, _<_};
@@ -9,10 +9,11 @@ ghost use Rattle.rows.specs.Row.{entryOf, rowOf};
 ghost use Rattle.stamps.specs.Stamp.{freshPair};
 ghost use Rattle.rack.specs.Places.{idle, heldIn};
 ghost use Rattle.rack.specs.Sound.{allBelow, soundOf};
-ghost use Rattle.words.specs.Layout.{wordCount, partyPlace, pairPlace, slotPlace, entryPlace, firsts};
-ghost use Rattle.words.specs.Reading.{byteOf, setOf, pairIn, goalOf, workOf, workIn, partyKnown, strayParty, partyIn, bodyOf, messageKnown, strayHeld, fullIn, heldOf, slotIn, entryKnown, lineKnown, lineIn, linesIn, countOf, countIn, powerOf, sizesIn, rackOf};
-ghost use Rattle.words.specs.Writing.{pairWords, noPair, openWords, toldWords, workWords, flag, partyWords, bodyKind, bodyWords, slotWords, putFirsts, headOf, partiesPut, pairWritten, pairsPut, entryIn, writtenOf};
-ghost use Rattle.words.specs.Calls.{madeOutcome, runOutcome};
+ghost use Rattle.layout.specs.Layout.{wordCount, partyPlace, pairPlace, slotPlace, entryPlace, firsts};
+ghost use Rattle.layout.specs.Reading.{byteOf, setOf, pairIn, goalOf, workOf, workIn, partyKnown, strayParty, partyIn, bodyOf, messageKnown, strayHeld, fullIn, heldOf, slotIn, entryKnown, lineKnown, lineIn, linesIn, countOf, countIn, powerOf, sizesIn, rackOf};
+ghost use Rattle.layout.specs.Writing.{pairWords, noPair, openWords, toldWords, workWords, flag, partyWords, bodyKind, bodyWords, slotWords, putFirsts, headOf, partiesPut, pairWritten, pairsPut, entryIn, writtenOf};
+ghost use Rattle.layout.specs.Calls.{madeOutcome, runOutcome};
+use layout::Answer;
 use method::Body;
 use method::Goal;
 use method::Held;
@@ -32,12 +33,6 @@ use stamps::Stamp;
 
 // How many words a rack takes.
 pub const WORDS: usize = 11301;
-
-// What a call answers: how many events were done, and the refusal, 0 for none.
-pub struct Answer {
-    pub done: usize,
-    pub refusal: u8,
-}
 
 // ---- reading
 

@@ -1,5 +1,5 @@
 -- `words::full_at` meets its contract.
-use Rattle.words.specs.Reading.{fullIn}
+use Rattle.layout.specs.Reading.{fullIn}
 use borrow.Author.Needs.{needs}
 use Rattle.words.proofs.full_at.Statement.{statement}
 use Rattle.words.proofs.full_at.Tie as tie

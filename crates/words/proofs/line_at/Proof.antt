@@ -1,5 +1,5 @@
 -- `words::line_at` meets its contract.
-use Rattle.words.specs.Reading.{lineIn}
+use Rattle.layout.specs.Reading.{lineIn}
 use borrow.Author.Needs.{needs}
 use Rattle.words.proofs.line_at.Statement.{statement}
 use Rattle.words.proofs.line_at.Tie as tie

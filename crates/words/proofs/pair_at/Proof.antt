@@ -1,6 +1,6 @@
 -- `words::pair_at` meets its contract.
 use Rattle.number.specs.ValueLaws.{signed-of-bits}
-use Rattle.words.specs.Reading.{pairIn}
+use Rattle.layout.specs.Reading.{pairIn}
 use borrow.Author.Needs.{needs}
 use Rattle.words.proofs.pair_at.Statement.{statement}
 use Rattle.words.proofs.pair_at.Tie as tie

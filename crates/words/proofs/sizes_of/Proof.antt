@@ -1,5 +1,5 @@
 -- `words::sizes_of` meets its contract.
-use Rattle.words.specs.Reading.{sizesIn}
+use Rattle.layout.specs.Reading.{sizesIn}
 use borrow.Author.Needs.{needs}
 use Rattle.words.proofs.sizes_of.Statement.{statement}
 use Rattle.words.proofs.sizes_of.Tie as tie

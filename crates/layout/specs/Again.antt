@@ -20,12 +20,12 @@ use Rattle.rack.specs.Places.{empty, idle, partyAt, pairAt, heldAt}
 use Rattle.rack.specs.Sound.{allBelow, soundOf}
 use Rattle.rack.specs.SoundLaws.{Sound, sound-of}
 use Rattle.rack.specs.Tests.{all-of}
-use Rattle.words.specs.Layout.{wordCount, partyPlace, pairPlace, slotPlace, entryPlace, word, firsts}
-use Rattle.words.specs.Reading.{byteOf, pairIn, partyIn, slotIn, lineIn, lineKnown, linesIn, countOf, countIn, powerOf, sizesIn, rackOf}
-use Rattle.words.specs.Writing.{pairWords, partyWords, slotWords, headOf, partiesPut, pairWritten, pairsPut, wirePut, entryIn, recordPut, writtenOf}
-use Rattle.words.specs.Firsts.{firsts-long, firsts-at}
-use Rattle.words.specs.Places.{Stands, sets-stand, first-long, parts-below, parts-stand}
-use Rattle.words.specs.Trip.{entryFits, row-long, line-known, line-again, pair-long, pair-again, heldSmall, slot-long, slot-again, workSmall, plain, party-long, party-again}
+use Rattle.layout.specs.Layout.{wordCount, partyPlace, pairPlace, slotPlace, entryPlace, word, firsts}
+use Rattle.layout.specs.Reading.{byteOf, pairIn, partyIn, slotIn, lineIn, lineKnown, linesIn, countOf, countIn, powerOf, sizesIn, rackOf}
+use Rattle.layout.specs.Writing.{pairWords, partyWords, slotWords, headOf, partiesPut, pairWritten, pairsPut, wirePut, entryIn, recordPut, writtenOf}
+use Rattle.layout.specs.Firsts.{firsts-long, firsts-at}
+use Rattle.layout.specs.Places.{Stands, sets-stand, first-long, parts-below, parts-stand}
+use Rattle.layout.specs.Trip.{entryFits, row-long, line-known, line-again, pair-long, pair-again, heldSmall, slot-long, slot-again, workSmall, plain, party-long, party-again}
 
 -- what the types of a rack's parts can hold: bytes, 16 bits, fifteen bits of power
 pub record Small (r : Rack) : Type 0 where

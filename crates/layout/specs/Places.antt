@@ -8,8 +8,8 @@ use lib.Dec.{eqb}
 use lib.ListN.{length, getD, set, length-set}
 use lib.Seq.{sets, length-sets, getD-set-same, getD-set-other}
 use borrow.Author.Tests.{eqb-true, eqb-false}
-use Rattle.words.specs.Layout.{word}
-use Rattle.words.specs.Writing.{putFirsts}
+use Rattle.layout.specs.Layout.{word}
+use Rattle.layout.specs.Writing.{putFirsts}
 
 -- the words xs stand at a place
 abbrev pub Stands : List ℕ → ℕ → List ℕ → Type 0
