@@ -3,7 +3,6 @@ ghost use mathlib.Core.Path.{_≡_};
 ghost use Prim.Native.Nat.{_+_, _*_, _≤_};
 ghost use lib.ListN.{length};
 ghost use lib.Seq.{sets};
-ghost use Rattle.rows.specs.Row.{rowOf};
 ghost use Rattle.rows.specs.Rows.{rowsOf, writeOutcome, Leaves};
 ghost use Rattle.rack.specs.Places.{recordOf};
 ghost use Rattle.back.specs.Lines.{entriesOf};
@@ -11,24 +10,6 @@ use rack::Line;
 use rack::Rack;
 use record::Answer;
 use record::ENTRY_LIMIT;
-use record::Entry;
-
-// An entry as a row of four numbers; a field that its kind hasn't got stands as 0.
-fn row_of(e: Entry) -> [u32; 4]
-    ensures { λ r. ⌜ r ≡ rowOf e ⌝ }
-{
-    match e {
-        Entry::ReadAsked(client, cell) => [0, client.0 as u32, cell.0 as u32, 0],
-        Entry::WriteAsked(client, cell, v) => [
-            1,
-            client.0 as u32,
-            cell.0 as u32,
-            number::alternating(v),
-        ],
-        Entry::Told(client, v) => [2, client.0 as u32, 0, number::alternating(v)],
-        Entry::Done(client) => [3, client.0 as u32, 0, 0],
-    }
-}
 
 // Four numbers at a place.
 fn put_row(rows: &mut [u32], at: usize, row: [u32; 4])
@@ -50,7 +31,7 @@ fn store_lines(lines: [Line; 2048], n: usize, rows: &mut [u32])
     while i < n {
         let line = lines[i];
         let entry = line.entry;
-        put_row(rows, 4 * i, row_of(entry));
+        put_row(rows, 4 * i, rows::row_of(entry));
         i += 1;
     }
 }

@@ -26,10 +26,10 @@ use Rattle.record.specs.declared.Answer.{Answer}
 use Rattle.record.specs.declared.Answer.the-variants.{All, Refused as Unread}
 use Rattle.rack.specs.Run.{madeOf, runOf}
 use Rattle.schedule.specs.Steps.{run-steps}
-use Rattle.words.specs.declared.Answer.{Answer as Done}
-use Rattle.words.specs.Layout.{wordCount}
-use Rattle.words.specs.Reading.{rackOf}
-use Rattle.words.specs.Calls.{unfit, makes, madeOutcome, leaves, runOutcome}
+use Rattle.layout.specs.declared.Answer.{Answer as Done}
+use Rattle.layout.specs.Layout.{wordCount}
+use Rattle.layout.specs.Reading.{rackOf}
+use Rattle.layout.specs.Calls.{unfit, makes, madeOutcome, leaves, runOutcome}
 use Rattle.exports.specs.Packed.{Small, Brief}
 
 -- the place after a number is at most five places further

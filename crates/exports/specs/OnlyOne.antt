@@ -13,10 +13,10 @@ use Rattle.record.specs.Sheet.{sheetBytes}
 use Rattle.verdict.specs.OnlyOne.{one-verdict}
 use Rattle.verdict.specs.Bench.{stale, twelve-verdict, stale-verdict}
 use Rattle.rack.specs.Sound.{soundOf}
-use Rattle.words.specs.Layout.{wordCount}
-use Rattle.words.specs.Reading.{rackOf}
-use Rattle.words.specs.Calls.{madeOutcome, runOutcome}
-use Rattle.words.specs.OnlyOne.{not-made, not-run, unsound-stays}
+use Rattle.layout.specs.Layout.{wordCount}
+use Rattle.layout.specs.Reading.{rackOf}
+use Rattle.layout.specs.Calls.{madeOutcome, runOutcome}
+use Rattle.layout.specs.OnlyOne.{not-made, not-run, unsound-stays}
 use Rattle.exports.specs.Packed.{packedNumber, packedPut, packedAnswer, packedVerdict, Judged, packedRun}
 
 -- ---- unpacking

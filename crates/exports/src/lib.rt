@@ -5,7 +5,7 @@ ghost use Rattle.number.specs.Number.{numberAt, putAnswer, putBytes};
 ghost use Rattle.number.specs.Value.{alternatingOf, signedOf};
 ghost use Rattle.rows.specs.Rows.{readOutcome, writeOutcome};
 ghost use Rattle.exports.specs.Packed.{packedNumber, packedPut, packedAnswer, Small, packedVerdict, Brief, Judged, packedRun};
-ghost use Rattle.words.specs.Calls.{madeOutcome, runOutcome};
+ghost use Rattle.layout.specs.Calls.{madeOutcome, runOutcome};
 use number::Number;
 use number::Put;
 use record::Answer;
@@ -100,7 +100,7 @@ pub extern "C" fn adze_verdict(bytes: &[u8]) -> u64
 }
 
 // What was done on a rack as one number.
-fn packed_run(a: words::Answer) -> u64
+fn packed_run(a: layout::Answer) -> u64
     requires { ⌜ a .done < 2 ^ 32 ⌝ }
     ensures { λ r. ⌜ r ≡ packedRun a ⌝ }
 {

@@ -3,8 +3,14 @@ use Prim.Native.Nat.{ℕ}
 use mathlib.Core.List.{List, [], _∷_}
 use mathlib.Core.Path.{_≡_, ap, _∙_, sym}
 use native.Mathlib.Omega.{arith}
-use lib.ListN.{drop}
+use lib.IntN.{ℤ, pos}
+use lib.ListN.{drop, getD}
 use Rattle.number.specs.Number.{groupsOf}
+use Rattle.number.specs.Value.{alternatingOf}
+use Rattle.record.specs.declared.Cell.{Cell}
+use Rattle.record.specs.declared.Client.{Client}
+use Rattle.record.specs.declared.Entry.{Entry}
+use Rattle.record.specs.declared.Entry.the-variants.{WriteAsked, Told}
 use Rattle.record.specs.declared.Answer.{Answer}
 use Rattle.record.specs.declared.Answer.the-variants.{All, Refused}
 use Rattle.record.specs.Entry.{entryBytes}
@@ -12,8 +18,21 @@ use Rattle.record.specs.Record.{Held, allOf}
 use Rattle.record.specs.Answers.{countIn}
 use Rattle.record.specs.Sheet.{sheetBytes, sheet-reads, second-faulty}
 use Rattle.record.specs.OnlyOne.{SameAnswer, same-answer}
+use Rattle.rows.specs.Row.{rowOf}
 use Rattle.rows.specs.Rows.{Outcome, Leaves, stored, readInto, writeInto, readOutcome, writeOutcome}
 use Rattle.rows.specs.Sheet.{sheet-rows, row-client-8, one-row}
+
+pub one-row-of : (e : Entry) (r r′ : List ℕ) → r ≡ rowOf e → r′ ≡ rowOf e → r ≡ r′
+one-row-of e r r′ p q = p ∙ sym q
+
+-- the row of a told isn't a done's, and a value of 5 doesn't stand as 5
+pub row-not-done : (client : Client) (v : ℤ) (r : List ℕ) → r ≡ rowOf (Told client v) → getD r 0 0 ≡ 3 → ⊥
+unfolding rowOf
+row-not-done client v r p q = omega (arith, ap (λ (l : List ℕ). getD l 0 0) p)
+
+pub row-not-plain : (client : Client) (cell : Cell) (r : List ℕ) → r ≡ rowOf (WriteAsked client cell (pos 5)) → getD r 3 0 ≡ 5 → ⊥
+unfolding rowOf alternatingOf
+row-not-plain client cell r p q = omega (arith, ap (λ (l : List ℕ). getD l 3 0) p)
 
 -- two outcomes whose answers are one, and which leave the same in the lent memory
 pub record SameOutcome (r r′ : Answer) (d d′ : List ℕ) : Type 0 where

@@ -72,6 +72,13 @@ row-length (WriteAsked client cell v) = refl
 row-length (Told client v) = refl
 row-length (Done client) = refl
 
+pub row-whole : (e : Entry) (r : List ℕ) → r ≡ rowOf e → getD r 0 0 ∷ getD r 1 0 ∷ getD r 2 0 ∷ getD r 3 0 ∷ [] ≡ rowOf e
+unfolding rowOf
+row-whole (ReadAsked client cell) r p = rw p
+row-whole (WriteAsked client cell v) r p = rw p
+row-whole (Told client v) r p = rw p
+row-whole (Done client) r p = rw p
+
 -- and there are four to an entry
 pub rows-length : (es : List Entry) → length (rowsOf es) ≡ 4 * length es
 unfolding allOf

@@ -32,23 +32,29 @@ fn put_row(rows: &mut [u32], at: usize, kind: u32, client: u32, cell: u32, value
 }
 
 // An entry as a row of four numbers; a field that its kind hasn't got stands as 0.
-fn store_row(rows: &mut [u32], at: usize, e: Entry)
-    requires { ⌜ at + 4 ≤ length (now rows) ⌝ }
-    ensures { λ r. ⌜ now (rows .exit) ≡ sets (now (rows .entry)) at (rowOf e) ⌝ }
+pub fn row_of(e: Entry) -> [u32; 4]
+    ensures { λ r. ⌜ r ≡ rowOf e ⌝ }
 {
     match e {
-        Entry::ReadAsked(client, cell) => put_row(rows, at, 0, client.0 as u32, cell.0 as u32, 0),
-        Entry::WriteAsked(client, cell, v) => put_row(
-            rows,
-            at,
+        Entry::ReadAsked(client, cell) => [0, client.0 as u32, cell.0 as u32, 0],
+        Entry::WriteAsked(client, cell, v) => [
             1,
             client.0 as u32,
             cell.0 as u32,
             number::alternating(v),
-        ),
-        Entry::Told(client, v) => put_row(rows, at, 2, client.0 as u32, 0, number::alternating(v)),
-        Entry::Done(client) => put_row(rows, at, 3, client.0 as u32, 0, 0),
+        ],
+        Entry::Told(client, v) => [2, client.0 as u32, 0, number::alternating(v)],
+        Entry::Done(client) => [3, client.0 as u32, 0, 0],
     }
+}
+
+// An entry's row at a place.
+fn store_row(rows: &mut [u32], at: usize, e: Entry)
+    requires { ⌜ at + 4 ≤ length (now rows) ⌝ }
+    ensures { λ r. ⌜ now (rows .exit) ≡ sets (now (rows .entry)) at (rowOf e) ⌝ }
+{
+    let row = row_of(e);
+    put_row(rows, at, row[0], row[1], row[2], row[3])
 }
 
 // Stores the n entries that the bytes hold.

@@ -12,11 +12,11 @@ use Rattle.rack.specs.declared.Ran.{Ran}
 use Rattle.rack.specs.Sound.{soundOf}
 use Rattle.rack.specs.Run.{madeOf, ranOf, runOf}
 use Rattle.schedule.specs.Parts.{run-stays}
-use Rattle.words.specs.declared.Answer.{Answer}
-use Rattle.words.specs.Layout.{wordCount}
-use Rattle.words.specs.Reading.{rackOf}
-use Rattle.words.specs.Writing.{writtenOf}
-use Rattle.words.specs.Calls.{answerOf, makes, madeOutcome, leaves, runOutcome}
+use Rattle.layout.specs.declared.Answer.{Answer}
+use Rattle.layout.specs.Layout.{wordCount}
+use Rattle.layout.specs.Reading.{rackOf}
+use Rattle.layout.specs.Writing.{writtenOf}
+use Rattle.layout.specs.Calls.{answerOf, makes, madeOutcome, leaves, runOutcome}
 
 -- ---- the maker
 

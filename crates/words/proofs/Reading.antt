@@ -10,9 +10,9 @@ use lib.Seq.{drop-cons, set-at, append-snoc}
 use borrow.Author.Tests.{lt-ltb, le-ltb, ltb-true}
 use Rattle.rack.specs.Sound.{allBelow}
 use Rattle.method.specs.Tests.{and-left, and-right}
-use Rattle.words.specs.Layout.{entryPlace, word, firsts}
-use Rattle.words.specs.Firsts.{firsts-long}
-use Rattle.words.specs.Reading.{partyKnown, messageKnown, lineKnown, countOf, countIn}
+use Rattle.layout.specs.Layout.{entryPlace, word, firsts}
+use Rattle.layout.specs.Firsts.{firsts-long}
+use Rattle.layout.specs.Reading.{partyKnown, messageKnown, lineKnown, countOf, countIn}
 
 -- the first i places of the list l are read, and the others are those of xs
 pub record Filling {A : Type 0} (f : ℕ → A) (n : ℕ) (xs l : List A) (i : ℕ) : Type 0 where

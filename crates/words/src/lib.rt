@@ -1,4 +1,4 @@
-// A rack in lent memory: 11,301 words of 32 bits, laid out as specs/Layout says, and schedules run on it.
+// A rack in lent memory: 11,301 words of 32 bits, laid out as crate layout says, and schedules run on it.
 ghost use mathlib.Core.Path.{_≡_};
 ghost use mathlib.Core.Bool.{true, cond};
 ghost use Prim.Native.Nat.{_+_, _*_, _≤_, _<_};
@@ -9,10 +9,11 @@ ghost use Rattle.rows.specs.Row.{entryOf, rowOf};
 ghost use Rattle.stamps.specs.Stamp.{freshPair};
 ghost use Rattle.rack.specs.Places.{idle, heldIn};
 ghost use Rattle.rack.specs.Sound.{allBelow, soundOf};
-ghost use Rattle.words.specs.Layout.{wordCount, partyPlace, pairPlace, slotPlace, entryPlace, firsts};
-ghost use Rattle.words.specs.Reading.{byteOf, setOf, pairIn, goalOf, workOf, workIn, partyKnown, strayParty, partyIn, bodyOf, messageKnown, strayHeld, fullIn, heldOf, slotIn, entryKnown, lineKnown, lineIn, linesIn, countOf, countIn, powerOf, sizesIn, rackOf};
-ghost use Rattle.words.specs.Writing.{pairWords, noPair, openWords, toldWords, workWords, flag, partyWords, bodyKind, bodyWords, slotWords, putFirsts, headOf, partiesPut, pairWritten, pairsPut, entryIn, writtenOf};
-ghost use Rattle.words.specs.Calls.{madeOutcome, runOutcome};
+ghost use Rattle.layout.specs.Layout.{wordCount, partyPlace, pairPlace, slotPlace, entryPlace, word, firsts};
+ghost use Rattle.layout.specs.Reading.{byteOf, setOf, pairIn, goalOf, workOf, workIn, partyKnown, strayParty, partyIn, bodyOf, messageKnown, strayHeld, fullIn, heldOf, slotIn, entryKnown, lineKnown, lineIn, linesIn, countOf, countIn, powerOf, sizesIn, rackOf};
+ghost use Rattle.layout.specs.Writing.{pairWords, noPair, openWords, toldWords, workWords, flag, partyWords, bodyKind, bodyWords, slotWords, putFirsts, headOf, partiesPut, pairWritten, pairsPut, entryIn, writtenOf};
+ghost use Rattle.layout.specs.Calls.{madeOutcome, runOutcome};
+use layout::Answer;
 use method::Body;
 use method::Goal;
 use method::Held;
@@ -33,12 +34,6 @@ use stamps::Stamp;
 // How many words a rack takes.
 pub const WORDS: usize = 11301;
 
-// What a call answers: how many events were done, and the refusal, 0 for none.
-pub struct Answer {
-    pub done: usize,
-    pub refusal: u8,
-}
-
 // ---- reading
 
 // A number that a byte can't hold is 255, which no rack has.
@@ -49,6 +44,13 @@ fn byte(word: u32) -> u8
         return word as u8;
     }
     255
+}
+
+fn byte_at(words: &[u32], at: usize) -> u8
+    requires { ⌜ at < length (now words) ⌝ }
+    ensures { λ r. ⌜ r ≡ byteOf (word (now (words .entry)) at) ⌝ }
+{
+    byte(words[at])
 }
 
 fn set_of(word: u32) -> u16
@@ -64,7 +66,7 @@ fn pair_at(words: &[u32], at: usize) -> Pair
     requires { ⌜ at + 3 ≤ length (now words) ⌝ }
     ensures { λ r. ⌜ r ≡ pairIn (now (words .entry)) at ⌝ }
 {
-    let rank = byte(words[at + 1]);
+    let rank = byte_at(words, at + 1);
     let value = number::signed(words[at + 2]);
     let stamp = Stamp {
         number: words[at],
@@ -218,9 +220,9 @@ fn full_at(words: &[u32], at: usize) -> Held
     requires { ⌜ (at + 9 ≤ length (now words)) × (getD (now words) (at + 5) 0 < 65536) ⌝ }
     ensures { λ r. ⌜ r ≡ fullIn (now (words .entry)) at ⌝ }
 {
-    let client = byte(words[at + 2]);
-    let replica = byte(words[at + 3]);
-    let cell = byte(words[at + 4]);
+    let client = byte_at(words, at + 2);
+    let replica = byte_at(words, at + 3);
+    let cell = byte_at(words, at + 4);
     let pair = pair_at(words, at + 6);
     let body = body_of(words[at + 1], pair);
     Held::Full(Message {
@@ -265,8 +267,8 @@ fn line_at(words: &[u32], at: usize) -> Line
     requires { ⌜ at + 4 ≤ length (now words) ⌝ }
     ensures { λ r. ⌜ r ≡ lineIn (now (words .entry)) at ⌝ }
 {
-    let client = byte(words[at + 1]);
-    let cell = byte(words[at + 2]);
+    let client = byte_at(words, at + 1);
+    let cell = byte_at(words, at + 2);
     let entry = entry_of(words[at], client, cell, words[at + 3]);
     Line { entry: entry }
 }
@@ -425,8 +427,8 @@ fn sizes_of(words: &[u32]) -> Sizes
     ensures { λ r. ⌜ r ≡ sizesIn (now (words .entry)) ⌝ }
 {
     let replicas = replicas_of(words[0], words[3]);
-    let clients = byte(words[1]);
-    let cells = byte(words[2]);
+    let clients = byte_at(words, 1);
+    let cells = byte_at(words, 2);
     Sizes {
         replicas: replicas,
         clients: clients,
@@ -628,24 +630,8 @@ fn put_entry(words: &mut [u32], at: usize, entry: Entry)
     requires { ⌜ at + 4 ≤ length (now words) ⌝ }
     ensures { λ r. ⌜ now (words .exit) ≡ sets (now (words .entry)) at (rowOf entry) ⌝ }
 {
-    match entry {
-        Entry::ReadAsked(client, cell) => {
-            let row = [0u32, client.0 as u32, cell.0 as u32, 0];
-            put(words, at, &row)
-        }
-        Entry::WriteAsked(client, cell, v) => {
-            let row = [1u32, client.0 as u32, cell.0 as u32, number::alternating(v)];
-            put(words, at, &row)
-        }
-        Entry::Told(client, v) => {
-            let row = [2u32, client.0 as u32, 0, number::alternating(v)];
-            put(words, at, &row)
-        }
-        Entry::Done(client) => {
-            let row = [3u32, client.0 as u32, 0, 0];
-            put(words, at, &row)
-        }
-    }
+    let row = rows::row_of(entry);
+    put(words, at, &row)
 }
 
 // ---- writing each part

@@ -1,5 +1,5 @@
 -- `words::body_kind` meets its contract.
-use Rattle.words.specs.Writing.{bodyKind}
+use Rattle.layout.specs.Writing.{bodyKind}
 use borrow.Author.Needs.{needs}
 use Rattle.words.proofs.body_kind.Statement.{statement}
 use Rattle.words.proofs.body_kind.Tie as tie

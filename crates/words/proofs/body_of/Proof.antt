@@ -1,6 +1,6 @@
 -- `words::body_of` meets its contract.
 use borrow.Author.Tests.{eq-eqb, ne-eqb}
-use Rattle.words.specs.Reading.{bodyOf}
+use Rattle.layout.specs.Reading.{bodyOf}
 use Rattle.words.proofs.body_of.Statement.{statement}
 use Rattle.words.proofs.body_of.Tie as tie
 

@@ -1,6 +1,6 @@
 -- `words::byte` meets its contract.
 use borrow.Author.Tests.{lt-ltb, le-ltb}
-use Rattle.words.specs.Reading.{byteOf}
+use Rattle.layout.specs.Reading.{byteOf}
 use borrow.Author.Needs.{needs}
 use Rattle.words.proofs.byte.Statement.{statement}
 use Rattle.words.proofs.byte.Tie as tie

@@ -1,5 +1,5 @@
 -- `words::count_of` meets its contract.
-use Rattle.words.specs.Reading.{countOf}
+use Rattle.layout.specs.Reading.{countOf}
 use borrow.Author.Needs.{needs}
 use native.Mathlib.Omega.{arith}
 use Rattle.words.proofs.count_of.Statement.{statement}

@@ -1,6 +1,6 @@
 -- `words::entry_known` meets its contract.
 use borrow.Author.Tests.{lt-ltb, le-ltb}
-use Rattle.words.specs.Reading.{entryKnown}
+use Rattle.layout.specs.Reading.{entryKnown}
 use Rattle.words.proofs.Reading.{fewer}
 use Rattle.words.proofs.entry_known.Statement.{statement}
 use Rattle.words.proofs.entry_known.Tie as tie

@@ -1,5 +1,5 @@
 -- `words::flag` meets its contract.
-use Rattle.words.specs.Writing.{flag}
+use Rattle.layout.specs.Writing.{flag}
 use Rattle.words.proofs.flag.Statement.{statement}
 use Rattle.words.proofs.flag.Tie as tie
 

@@ -1,7 +1,7 @@
 -- `words::goal_of` meets its contract.
 use borrow.Author.Tests.{eq-eqb, ne-eqb}
 use Rattle.number.specs.ValueLaws.{signed-of-bits}
-use Rattle.words.specs.Reading.{goalOf}
+use Rattle.layout.specs.Reading.{goalOf}
 use borrow.Author.Needs.{needs}
 use Rattle.words.proofs.goal_of.Statement.{statement}
 use Rattle.words.proofs.goal_of.Tie as tie

@@ -1,7 +1,7 @@
 -- `words::held_at` meets its contract.
 use mathlib.Core.Path.{sym, _∙_}
 use borrow.Author.Tests.{eq-eqb, ne-eqb}
-use Rattle.words.specs.Reading.{heldOf}
+use Rattle.layout.specs.Reading.{heldOf}
 use Rattle.words.proofs.Reading.{message-op}
 use borrow.Author.Needs.{needs}
 use Rattle.words.proofs.held_at.Statement.{statement}

@@ -5,8 +5,8 @@ use mathlib.Core.Bool.{true}
 use borrow.Author.Tests.{not-true, not-false}
 use Rattle.rack.specs.Sound.{allBelow}
 use Rattle.rack.specs.Tests.{all-none, all-next, all-fail}
-use Rattle.words.specs.Layout.{entryPlace}
-use Rattle.words.specs.Reading.{lineKnown}
+use Rattle.layout.specs.Layout.{entryPlace}
+use Rattle.layout.specs.Reading.{lineKnown}
 use Rattle.words.proofs.Reading.{all-end}
 use borrow.Author.Needs.{needs}
 use Rattle.words.proofs.lines_known.Statement.{statement}

@@ -1,7 +1,7 @@
 -- `words::lines_of` meets its contract.
 use Prim.Native.Nat.{_-_}
-use Rattle.words.specs.Layout.{entryPlace}
-use Rattle.words.specs.Reading.{lineIn, linesIn}
+use Rattle.layout.specs.Layout.{entryPlace}
+use Rattle.layout.specs.Reading.{lineIn, linesIn}
 use Rattle.words.proofs.Reading.{Filling, fills, fills-on, fills-end}
 use borrow.Author.Needs.{needs}
 use Rattle.words.proofs.lines_of.Statement.{statement}

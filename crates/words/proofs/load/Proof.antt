@@ -1,5 +1,5 @@
 -- `words::load` meets its contract.
-use Rattle.words.specs.Reading.{rackOf}
+use Rattle.layout.specs.Reading.{rackOf}
 use borrow.Author.Needs.{needs}
 use Rattle.words.proofs.load.Statement.{statement}
 use Rattle.words.proofs.load.Tie as tie

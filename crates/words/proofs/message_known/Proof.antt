@@ -1,6 +1,6 @@
 -- `words::message_known` meets its contract.
 use borrow.Author.Tests.{lt-ltb, le-ltb, eq-eqb, ne-eqb}
-use Rattle.words.specs.Reading.{messageKnown}
+use Rattle.layout.specs.Reading.{messageKnown}
 use Rattle.words.proofs.Reading.{fewer}
 use Rattle.words.proofs.message_known.Statement.{statement}
 use Rattle.words.proofs.message_known.Tie as tie

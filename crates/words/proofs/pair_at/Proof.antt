@@ -1,21 +1,15 @@
 -- `words::pair_at` meets its contract.
 use Rattle.number.specs.ValueLaws.{signed-of-bits}
-use Rattle.words.specs.Reading.{pairIn}
+use Rattle.layout.specs.Reading.{pairIn}
 use borrow.Author.Needs.{needs}
 use Rattle.words.proofs.pair_at.Statement.{statement}
 use Rattle.words.proofs.pair_at.Tie as tie
 
-add-byte : tie.Need-add-byte
-add-byte c = search needs
+add-byte-at : tie.Need-add-byte-at
+add-byte-at c = search needs
 
-mul-byte : tie.Need-mul-byte
-mul-byte c = search needs
-
-shared-slice-read-byte : tie.Need-shared-slice-read-byte
-shared-slice-read-byte c = search needs
-
-byte-requires : tie.Need-byte-requires
-byte-requires c κs = search needs
+byte-at-requires : tie.Need-byte-at-requires
+byte-at-requires c κs = search needs
 
 add-signed : tie.Need-add-signed
 add-signed c = search needs
@@ -37,16 +31,14 @@ shared-slice-read-t9 c = search needs
 
 returns : tie.Need-returns
 unfolding pairIn
-returns c = rw (signed-of-bits (c .before .signed .result) _ (c .before .before .shared-slice-known3 .given _ .fits) (c .before .signed .ensures), c .before .before .before .byte .ensures)
+returns c = rw (signed-of-bits (c .before .signed .result) _ (c .before .before .shared-slice-known2 .given _ .fits) (c .before .signed .ensures), c .before .before .before .byte-at .ensures)
 
 pub pair-at-spec : {M : Type 1} → statement M
 pair-at-spec =
     tie.close
     (tie.spec
-    add-byte
-    mul-byte
-    shared-slice-read-byte
-    byte-requires
+    add-byte-at
+    byte-at-requires
     add-signed
     mul-signed
     shared-slice-read-signed

@@ -1,7 +1,7 @@
 -- `words::pairs_of` meets its contract.
 use Prim.Native.Nat.{_-_}
-use Rattle.words.specs.Layout.{pairPlace}
-use Rattle.words.specs.Reading.{pairIn}
+use Rattle.layout.specs.Layout.{pairPlace}
+use Rattle.layout.specs.Reading.{pairIn}
 use Rattle.words.proofs.Reading.{Filling, fills, fills-on, fills-all}
 use borrow.Author.Needs.{needs}
 use native.Mathlib.Omega.{arith}

@@ -1,7 +1,7 @@
 -- `words::parties_of` meets its contract.
 use Prim.Native.Nat.{_-_}
-use Rattle.words.specs.Layout.{partyPlace}
-use Rattle.words.specs.Reading.{partyIn}
+use Rattle.layout.specs.Layout.{partyPlace}
+use Rattle.layout.specs.Reading.{partyIn}
 use Rattle.words.proofs.Reading.{Filling, fills, fills-on, fills-all}
 use borrow.Author.Needs.{needs}
 use native.Mathlib.Omega.{arith}

@@ -1,6 +1,6 @@
 -- `words::party_at` meets its contract.
 use mathlib.Core.Path.{sym, _∙_}
-use Rattle.words.specs.Reading.{partyIn}
+use Rattle.layout.specs.Reading.{partyIn}
 use Rattle.words.proofs.Reading.{party-op}
 use borrow.Author.Needs.{needs}
 use Rattle.words.proofs.party_at.Statement.{statement}

@@ -1,6 +1,6 @@
 -- `words::party_known` meets its contract.
 use borrow.Author.Tests.{lt-ltb, le-ltb, eq-eqb, ne-eqb}
-use Rattle.words.specs.Reading.{partyKnown}
+use Rattle.layout.specs.Reading.{partyKnown}
 use Rattle.words.proofs.Reading.{fewer}
 use Rattle.words.proofs.party_known.Statement.{statement}
 use Rattle.words.proofs.party_known.Tie as tie

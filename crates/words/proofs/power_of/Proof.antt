@@ -1,6 +1,6 @@
 -- `words::power_of` meets its contract.
 use borrow.Author.Tests.{lt-ltb, le-ltb}
-use Rattle.words.specs.Reading.{powerOf}
+use Rattle.layout.specs.Reading.{powerOf}
 use borrow.Author.Needs.{needs}
 use Rattle.words.proofs.power_of.Statement.{statement}
 use Rattle.words.proofs.power_of.Tie as tie

@@ -1,5 +1,5 @@
 -- `words::put_body` meets its contract.
-use Rattle.words.specs.Writing.{bodyWords}
+use Rattle.layout.specs.Writing.{bodyWords}
 use borrow.Author.Needs.{needs}
 use Rattle.words.proofs.put_body.Statement.{statement}
 use Rattle.words.proofs.put_body.Tie as tie

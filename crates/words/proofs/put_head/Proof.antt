@@ -1,5 +1,5 @@
 -- `words::put_head` meets its contract.
-use Rattle.words.specs.Writing.{headOf}
+use Rattle.layout.specs.Writing.{headOf}
 use borrow.Author.Needs.{needs}
 use Rattle.words.proofs.put_head.Statement.{statement}
 use Rattle.words.proofs.put_head.Tie as tie

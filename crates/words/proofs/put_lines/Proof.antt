@@ -1,9 +1,9 @@
 -- `words::put_lines` meets its contract.
 use Prim.Native.Nat.{_-_}
-use Rattle.words.specs.Layout.{entryPlace}
+use Rattle.layout.specs.Layout.{entryPlace}
 use Rattle.words.proofs.Writing.{Storing, stores, stores-long, stores-on, stores-end}
 use Rattle.rows.specs.Row.{rowOf}
-use Rattle.words.specs.Writing.{entryIn}
+use Rattle.layout.specs.Writing.{entryIn}
 use borrow.Author.Needs.{needs}
 use native.Mathlib.Omega.{arith}
 use Rattle.words.proofs.put_lines.Statement.{statement}

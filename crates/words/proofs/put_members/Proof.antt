@@ -1,7 +1,7 @@
 -- `words::put_members` meets its contract.
 use mathlib.Core.Path.{ap, _∙_}
 use Rattle.rack.specs.SoundLaws.{sound-of}
-use Rattle.words.specs.Writing.{pairsPut, partiesPut}
+use Rattle.layout.specs.Writing.{pairsPut, partiesPut}
 use borrow.Author.Needs.{needs}
 use native.Mathlib.Omega.{arith}
 use Rattle.words.proofs.put_members.Statement.{statement}

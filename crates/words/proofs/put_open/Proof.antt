@@ -1,5 +1,5 @@
 -- `words::put_open` meets its contract.
-use Rattle.words.specs.Writing.{openWords}
+use Rattle.layout.specs.Writing.{openWords}
 use Rattle.number.specs.ValueLaws.{alternating-of-bits}
 use borrow.Author.Needs.{needs}
 use Rattle.words.proofs.put_open.Statement.{statement}

@@ -1,5 +1,5 @@
 -- `words::put_pair` meets its contract.
-use Rattle.words.specs.Writing.{pairWords}
+use Rattle.layout.specs.Writing.{pairWords}
 use Rattle.number.specs.ValueLaws.{alternating-of-bits}
 use borrow.Author.Needs.{needs}
 use Rattle.words.proofs.put_pair.Statement.{statement}

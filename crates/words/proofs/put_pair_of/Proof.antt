@@ -1,6 +1,6 @@
 -- `words::put_pair_of` meets its contract.
 use borrow.Author.Tests.{lt-ltb, le-ltb}
-use Rattle.words.specs.Writing.{pairWritten}
+use Rattle.layout.specs.Writing.{pairWritten}
 use borrow.Author.Needs.{needs}
 use Rattle.words.proofs.put_pair_of.Statement.{statement}
 use Rattle.words.proofs.put_pair_of.Tie as tie

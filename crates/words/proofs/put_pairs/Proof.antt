@@ -1,11 +1,11 @@
 -- `words::put_pairs` meets its contract.
 use Prim.Native.Nat.{_-_}
-use Rattle.words.specs.Layout.{pairPlace}
+use Rattle.layout.specs.Layout.{pairPlace}
 use Rattle.words.proofs.Writing.{Storing, stores, stores-long, stores-on, stores-end}
 use lib.ListN.{getD}
 use mathlib.Core.Path.{_∙_}
 use Rattle.stamps.specs.Stamp.{freshPair}
-use Rattle.words.specs.Writing.{pairWritten}
+use Rattle.layout.specs.Writing.{pairWritten}
 use borrow.Author.Needs.{needs}
 use Rattle.words.proofs.put_pairs.Statement.{statement}
 use Rattle.words.proofs.put_pairs.Tie as tie

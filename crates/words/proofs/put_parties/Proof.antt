@@ -1,10 +1,10 @@
 -- `words::put_parties` meets its contract.
 use Prim.Native.Nat.{_-_}
-use Rattle.words.specs.Layout.{partyPlace}
+use Rattle.layout.specs.Layout.{partyPlace}
 use Rattle.words.proofs.Writing.{Storing, stores, stores-long, stores-on, stores-end}
 use lib.ListN.{getD}
 use Rattle.rack.specs.Places.{idle}
-use Rattle.words.specs.Writing.{partyWords}
+use Rattle.layout.specs.Writing.{partyWords}
 use borrow.Author.Needs.{needs}
 use native.Mathlib.Omega.{arith}
 use Rattle.words.proofs.put_parties.Statement.{statement}

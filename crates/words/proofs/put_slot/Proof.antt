@@ -1,5 +1,5 @@
 -- `words::put_slot` meets its contract.
-use Rattle.words.specs.Writing.{slotWords}
+use Rattle.layout.specs.Writing.{slotWords}
 use borrow.Author.Needs.{needs}
 use Rattle.words.proofs.put_slot.Statement.{statement}
 use Rattle.words.proofs.put_slot.Tie as tie

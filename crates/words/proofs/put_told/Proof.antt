@@ -1,6 +1,6 @@
 -- `words::put_told` meets its contract.
 use borrow.Author.Tests.{eq-eqb, ne-eqb}
-use Rattle.words.specs.Writing.{toldWords}
+use Rattle.layout.specs.Writing.{toldWords}
 use borrow.Author.Needs.{needs}
 use Rattle.words.proofs.put_told.Statement.{statement}
 use Rattle.words.proofs.put_told.Tie as tie

@@ -1,9 +1,9 @@
 -- `words::put_wire` meets its contract.
 use Prim.Native.Nat.{_-_}
-use Rattle.words.specs.Layout.{slotPlace}
+use Rattle.layout.specs.Layout.{slotPlace}
 use Rattle.words.proofs.Writing.{Storing, stores, stores-long, stores-on, stores-end}
 use Rattle.rack.specs.Places.{heldIn}
-use Rattle.words.specs.Writing.{slotWords}
+use Rattle.layout.specs.Writing.{slotWords}
 use borrow.Author.Needs.{needs}
 use native.Mathlib.Omega.{arith}
 use Rattle.words.proofs.put_wire.Statement.{statement}

@@ -1,5 +1,5 @@
 -- `words::put_work` meets its contract.
-use Rattle.words.specs.Writing.{workWords}
+use Rattle.layout.specs.Writing.{workWords}
 use Rattle.words.proofs.Writing.{asking-written, keeping-written}
 use borrow.Author.Needs.{needs}
 use Rattle.words.proofs.put_work.Statement.{statement}

@@ -1,6 +1,6 @@
 -- `words::set_of` meets its contract.
 use borrow.Author.Tests.{lt-ltb, le-ltb}
-use Rattle.words.specs.Reading.{setOf}
+use Rattle.layout.specs.Reading.{setOf}
 use borrow.Author.Needs.{needs}
 use Rattle.words.proofs.set_of.Statement.{statement}
 use Rattle.words.proofs.set_of.Tie as tie

@@ -1,5 +1,5 @@
 -- `words::slot_at` meets its contract.
-use Rattle.words.specs.Reading.{slotIn}
+use Rattle.layout.specs.Reading.{slotIn}
 use borrow.Author.Needs.{needs}
 use Rattle.words.proofs.slot_at.Statement.{statement}
 use Rattle.words.proofs.slot_at.Tie as tie

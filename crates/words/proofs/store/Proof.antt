@@ -1,6 +1,6 @@
 -- `words::store` meets its contract.
 use Rattle.rack.specs.SoundLaws.{sound-of}
-use Rattle.words.specs.Writing.{writtenOf, recordPut, wirePut}
+use Rattle.layout.specs.Writing.{writtenOf, recordPut, wirePut}
 use Rattle.words.proofs.Writing.{written}
 use borrow.Author.Needs.{needs}
 use native.Mathlib.Omega.{arith}

@@ -1,7 +1,7 @@
 -- `words::wire_of` meets its contract.
 use Prim.Native.Nat.{_-_}
-use Rattle.words.specs.Layout.{slotPlace}
-use Rattle.words.specs.Reading.{slotIn}
+use Rattle.layout.specs.Layout.{slotPlace}
+use Rattle.layout.specs.Reading.{slotIn}
 use Rattle.words.proofs.Reading.{Filling, fills, fills-on, fills-all}
 use borrow.Author.Needs.{needs}
 use native.Mathlib.Omega.{arith}

@@ -1,6 +1,6 @@
 -- `words::work_at` meets its contract.
 use borrow.Author.Tests.{eq-eqb, ne-eqb}
-use Rattle.words.specs.Reading.{workIn}
+use Rattle.layout.specs.Reading.{workIn}
 use borrow.Author.Needs.{needs}
 use Rattle.words.proofs.work_at.Statement.{statement}
 use Rattle.words.proofs.work_at.Tie as tie

@@ -1,6 +1,6 @@
 -- `words::work_of` meets its contract.
 use borrow.Author.Tests.{eq-eqb, ne-eqb}
-use Rattle.words.specs.Reading.{workOf}
+use Rattle.layout.specs.Reading.{workOf}
 use borrow.Author.Needs.{needs}
 use Rattle.words.proofs.work_of.Statement.{statement}
 use Rattle.words.proofs.work_of.Tie as tie

@@ -7,10 +7,10 @@ use lib.ListN.{length, replicate}
 use Rattle.rack.specs.declared.Made.{Made}
 use Rattle.rack.specs.declared.Ran.{Ran}
 use Rattle.rack.specs.Run.{madeOf, runOf}
-use Rattle.words.specs.declared.Answer.{Answer}
-use Rattle.words.specs.Layout.{wordCount}
-use Rattle.words.specs.Reading.{rackOf}
-use Rattle.words.specs.Writing.{writtenOf}
+use Rattle.layout.specs.declared.Answer.{Answer}
+use Rattle.layout.specs.Layout.{wordCount}
+use Rattle.layout.specs.Reading.{rackOf}
+use Rattle.layout.specs.Writing.{writtenOf}
 
 -- what a call answers, and what then stands in the lent words
 pub record Outcome : Type 0 where

@@ -24,7 +24,7 @@ use Rattle.rack.specs.declared.Sizes.{Sizes}
 use Rattle.rack.specs.declared.Rack.{Rack}
 use Rattle.stamps.specs.Stamp.{freshPair}
 use Rattle.rack.specs.Sound.{allBelow}
-use Rattle.words.specs.Layout.{partyPlace, pairPlace, slotPlace, entryPlace, word, firsts}
+use Rattle.layout.specs.Layout.{partyPlace, pairPlace, slotPlace, entryPlace, word, firsts}
 
 -- a number that a byte or 16 bits can't hold is read as their greatest, which no rack has
 unfoldable pub byteOf : ℕ → ℕ

@@ -10,6 +10,7 @@ use lib.Seq.{length-sets}
 use borrow.Author.Tests.{lt-ltb, le-ltb}
 use Rattle.record.specs.declared.Entry.the-variants.{ReadAsked, Done}
 use Rattle.rows.specs.Row.{rowOf}
+use Rattle.rows.specs.RowLaws.{row-length}
 use Rattle.rack.specs.declared.Line.{Line}
 use Rattle.stamps.specs.declared.Pair.{Pair}
 use Rattle.method.specs.declared.Party.{Party}
@@ -20,12 +21,12 @@ use Rattle.rack.specs.Places.{empty, idle, partyAt, pairAt, heldAt}
 use Rattle.rack.specs.Sound.{allBelow, soundOf}
 use Rattle.rack.specs.SoundLaws.{Sound, sound-of}
 use Rattle.rack.specs.Tests.{all-of}
-use Rattle.words.specs.Layout.{wordCount, partyPlace, pairPlace, slotPlace, entryPlace, word, firsts}
-use Rattle.words.specs.Reading.{byteOf, pairIn, partyIn, slotIn, lineIn, lineKnown, linesIn, countOf, countIn, powerOf, sizesIn, rackOf}
-use Rattle.words.specs.Writing.{pairWords, partyWords, slotWords, headOf, partiesPut, pairWritten, pairsPut, wirePut, entryIn, recordPut, writtenOf}
-use Rattle.words.specs.Firsts.{firsts-long, firsts-at}
-use Rattle.words.specs.Places.{Stands, sets-stand, first-long, parts-below, parts-stand}
-use Rattle.words.specs.Trip.{entryFits, row-long, line-known, line-again, pair-long, pair-again, heldSmall, slot-long, slot-again, workSmall, plain, party-long, party-again}
+use Rattle.layout.specs.Layout.{wordCount, partyPlace, pairPlace, slotPlace, entryPlace, word, firsts}
+use Rattle.layout.specs.Reading.{byteOf, pairIn, partyIn, slotIn, lineIn, lineKnown, linesIn, countOf, countIn, powerOf, sizesIn, rackOf}
+use Rattle.layout.specs.Writing.{pairWords, partyWords, slotWords, headOf, partiesPut, pairWritten, pairsPut, wirePut, entryIn, recordPut, writtenOf}
+use Rattle.layout.specs.Firsts.{firsts-long, firsts-at}
+use Rattle.layout.specs.Places.{Stands, sets-stand, first-long, parts-below, parts-stand}
+use Rattle.layout.specs.Trip.{entryFits, line-known, line-again, pair-long, pair-again, heldSmall, slot-long, slot-again, workSmall, plain, party-long, party-again}
 
 -- what the types of a rack's parts can hold: bytes, 16 bits, fifteen bits of power
 pub record Small (r : Rack) : Type 0 where
@@ -89,7 +90,7 @@ module _ (r : Rack) (ws : List ℕ) (s : soundOf r ≡ true) (l : length ws ≡ 
   slots-apart i = omega (arith, slot-long (heldAt r i))
 
   rows-apart : (i : ℕ) → entryPlace i + length (rows i) ≤ entryPlace (suc i)
-  rows-apart i = omega (arith, row-long (entryIn (r .lines) i))
+  rows-apart i = omega (arith, row-length (entryIn (r .lines) i))
 
   long-0 : length (headOf r ws) ≡ wordCount
   unfolding headOf

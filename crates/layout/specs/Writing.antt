@@ -24,7 +24,7 @@ use Rattle.rack.specs.declared.Line.{Line}
 use Rattle.rack.specs.declared.Rack.{Rack}
 use Rattle.stamps.specs.Stamp.{freshPair}
 use Rattle.rack.specs.Places.{partyAt, heldAt}
-use Rattle.words.specs.Layout.{partyPlace, pairPlace, slotPlace, entryPlace}
+use Rattle.layout.specs.Layout.{partyPlace, pairPlace, slotPlace, entryPlace}
 
 unfoldable pub pairWords : Pair → List ℕ
 pairWords p = p .stamp .number ∷ p .stamp .rank ∷ alternatingOf (p .value) ∷ []

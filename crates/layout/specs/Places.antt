@@ -8,8 +8,8 @@ use lib.Dec.{eqb}
 use lib.ListN.{length, getD, set, length-set}
 use lib.Seq.{sets, length-sets, getD-set-same, getD-set-other}
 use borrow.Author.Tests.{eqb-true, eqb-false}
-use Rattle.words.specs.Layout.{word}
-use Rattle.words.specs.Writing.{putFirsts}
+use Rattle.layout.specs.Layout.{word}
+use Rattle.layout.specs.Writing.{putFirsts}
 
 -- the words xs stand at a place
 abbrev pub Stands : List ℕ → ℕ → List ℕ → Type 0
@@ -18,10 +18,6 @@ Stands ws at xs = (o : ℕ) → o < length xs → word ws (at + o) ≡ getD xs o
 pub sets-below : (xs d : List ℕ) (at j : ℕ) → j < at → word (sets d at xs) j ≡ word d j
 sets-below [] d at j h = refl
 sets-below (x ∷ xs) d at j h = sets-below xs (set d at x) (suc at) j (omega arith) ∙ getD-set-other d at j x 0 (λ e. omega arith)
-
-pub sets-above : (xs d : List ℕ) (at j : ℕ) → at + length xs ≤ j → word (sets d at xs) j ≡ word d j
-sets-above [] d at j h = refl
-sets-above (x ∷ xs) d at j h = sets-above xs (set d at x) (suc at) j (omega arith) ∙ getD-set-other d at j x 0 (λ e. omega arith)
 
 pub sets-stand : (xs d : List ℕ) (at : ℕ) → at + length xs ≤ length d → Stands (sets d at xs) at xs
 sets-stand [] d at h o l = absurd (omega arith)
@@ -51,17 +47,11 @@ module _ (place : ℕ → ℕ) (f : ℕ → List ℕ) (apart : (i : ℕ) → pla
   from-first zero = omega arith
   from-first (suc n) = omega (arith, from-first n, apart n)
 
-  -- words before and after them stay
+  -- words before them stay
   pub parts-below : (n : ℕ) (d : List ℕ) (j : ℕ) → j < place 0 → word (putFirsts n place f d) j ≡ word d j
   unfolding putFirsts
   parts-below zero d j h = refl
   parts-below (suc n) d j h = sets-below (f n) (putFirsts n place f d) (place n) j (omega (arith, from-first n)) ∙ parts-below n d j h
-
-  pub parts-above : (n : ℕ) (d : List ℕ) (j : ℕ) → place n ≤ j → word (putFirsts n place f d) j ≡ word d j
-  unfolding putFirsts
-  parts-above zero d j h = refl
-  parts-above (suc n) d j h =
-      sets-above (f n) (putFirsts n place f d) (place n) j (omega (arith, apart n)) ∙ parts-above n d j (omega (arith, apart n))
 
   -- each stands at its place
   pub parts-stand : (n i : ℕ) (d : List ℕ) → i < n → place n ≤ length d → Stands (putFirsts n place f d) (place i) (f i)

@@ -14,9 +14,9 @@ use Rattle.rack.specs.Sound.{allBelow, heldFits, messageFits, workFits, owed, s
 use Rattle.rack.specs.SoundLaws.{Sound, sound-of}
 use Rattle.method.specs.Tests.{never}
 use Rattle.rack.specs.Tests.{all-at}
-use Rattle.words.specs.Layout.{partyPlace, slotPlace, entryPlace, word}
-use Rattle.words.specs.Reading.{byteOf, partyKnown, partyIn, messageKnown, heldOf, slotIn, lineKnown, countOf, countIn, sizesIn, rackOf}
-use Rattle.words.specs.Firsts.{firsts-at}
+use Rattle.layout.specs.Layout.{partyPlace, slotPlace, entryPlace, word}
+use Rattle.layout.specs.Reading.{byteOf, partyKnown, partyIn, messageKnown, heldOf, slotIn, lineKnown, countOf, countIn, sizesIn, rackOf}
+use Rattle.layout.specs.Firsts.{firsts-at}
 
 abbrev pub partyKnownAt : List ℕ → ℕ → Bool
 partyKnownAt ws at = partyKnown (word ws at) (word ws (at + 1)) (word ws (at + 2)) (word ws (at + 4))

@@ -8,7 +8,7 @@ use lib.Dec.{eqb}
 use lib.ListN.{length, getD, length-append, List·getD-append}
 use lib.Seq.{getD-at}
 use borrow.Author.Tests.{eqb-true, eqb-false}
-use Rattle.words.specs.Layout.{firsts}
+use Rattle.layout.specs.Layout.{firsts}
 
 pub firsts-long : {A : Type 0} (n : ℕ) (f : ℕ → A) → length (firsts n f) ≡ n
 unfolding firsts

@@ -13,6 +13,7 @@ use Rattle.record.specs.declared.Cell.{Cell}
 use Rattle.record.specs.declared.Entry.{Entry}
 use Rattle.record.specs.declared.Entry.the-variants.{ReadAsked, WriteAsked, Told, Done}
 use Rattle.rows.specs.Row.{entryOf, rowOf}
+use Rattle.rows.specs.RowLaws.{row-length}
 use Rattle.stamps.specs.declared.Pair.{Pair}
 use Rattle.method.specs.declared.Body.{Body}
 use Rattle.method.specs.declared.Body.the-variants.{Ask, Tell, Keep, Kept}
@@ -25,10 +26,10 @@ use Rattle.method.specs.declared.Work.{Work}
 use Rattle.method.specs.declared.Work.the-variants.{Idle, Asking, Keeping}
 use Rattle.method.specs.declared.Party.{Party}
 use Rattle.stamps.specs.Stamp.{freshPair}
-use Rattle.words.specs.Layout.{word}
-use Rattle.words.specs.Reading.{byteOf, setOf, pairIn, goalOf, workOf, workIn, partyKnown, partyIn, bodyOf, messageKnown, fullIn, heldOf, entryKnown, lineKnown, lineIn}
-use Rattle.words.specs.Writing.{pairWords, noPair, openWords, toldWords, workWords, flag, partyWords, bodyKind, bodyWords, slotWords}
-use Rattle.words.specs.Places.{Stands}
+use Rattle.layout.specs.Layout.{word}
+use Rattle.layout.specs.Reading.{byteOf, setOf, pairIn, goalOf, workOf, workIn, partyKnown, partyIn, bodyOf, messageKnown, fullIn, heldOf, entryKnown, lineKnown, lineIn}
+use Rattle.layout.specs.Writing.{pairWords, noPair, openWords, toldWords, workWords, flag, partyWords, bodyKind, bodyWords, slotWords}
+use Rattle.layout.specs.Places.{Stands}
 
 -- a word of a part
 at-of : (ws : List ℕ) (at n o : ℕ) (xs : List ℕ) → Stands ws at xs → length xs ≡ n → o < n → word ws (at + o) ≡ getD xs o 0
@@ -64,13 +65,6 @@ entryFits (WriteAsked client cell v) = (client .0 < 8) × (cell .0 < 16)
 entryFits (Told client v) = client .0 < 8
 entryFits (Done client) = client .0 < 8
 
-pub row-long : (e : Entry) → length (rowOf e) ≡ 4
-unfolding rowOf
-row-long (ReadAsked client cell) = refl
-row-long (WriteAsked client cell v) = refl
-row-long (Told client v) = refl
-row-long (Done client) = refl
-
 entry-again : (e : Entry) → entryFits e → entryOf (getD (rowOf e) 0 0) (byteOf (getD (rowOf e) 1 0)) (byteOf (getD (rowOf e) 2 0)) (getD (rowOf e) 3 0) ≡ e
 unfolding rowOf entryOf
 entry-again (ReadAsked client cell) h = rw (byte-same (client .0) (omega (arith, h .0)), byte-same (cell .0) (omega (arith, h .1)))
@@ -88,18 +82,18 @@ entry-known (Done client) h = rw (lt-ltb (client .0) 8 h)
 pub line-known : (ws : List ℕ) (at : ℕ) (e : Entry) → entryFits e → Stands ws at (rowOf e) → lineKnown ws at ≡ true
 unfolding lineKnown
 line-known ws at e h s =
-    let a = at-first ws at 4 (rowOf e) s (row-long e) (omega arith) in
-    let b = at-of ws at 4 1 (rowOf e) s (row-long e) (omega arith) in
-    let c = at-of ws at 4 2 (rowOf e) s (row-long e) (omega arith) in
+    let a = at-first ws at 4 (rowOf e) s (row-length e) (omega arith) in
+    let b = at-of ws at 4 1 (rowOf e) s (row-length e) (omega arith) in
+    let c = at-of ws at 4 2 (rowOf e) s (row-length e) (omega arith) in
     rw (a, b, c) (entry-known e h)
 
 pub line-again : (ws : List ℕ) (at : ℕ) (e : Entry) → entryFits e → Stands ws at (rowOf e) → lineIn ws at ≡ record { entry = e }
 unfolding lineIn
 line-again ws at e h s =
-    let a = at-first ws at 4 (rowOf e) s (row-long e) (omega arith) in
-    let b = at-of ws at 4 1 (rowOf e) s (row-long e) (omega arith) in
-    let c = at-of ws at 4 2 (rowOf e) s (row-long e) (omega arith) in
-    let d = at-of ws at 4 3 (rowOf e) s (row-long e) (omega arith) in
+    let a = at-first ws at 4 (rowOf e) s (row-length e) (omega arith) in
+    let b = at-of ws at 4 1 (rowOf e) s (row-length e) (omega arith) in
+    let c = at-of ws at 4 2 (rowOf e) s (row-length e) (omega arith) in
+    let d = at-of ws at 4 3 (rowOf e) s (row-length e) (omega arith) in
     rw (a, b, c, d, entry-again e h)
 
 -- ---- slots

@@ -8,10 +8,10 @@ use lib.ListN.{length}
 use borrow.Author.Tests.{eq-eqb, ne-eqb, le-ltb}
 use Rattle.rack.specs.Sound.{sizesFit, soundOf}
 use Rattle.rack.specs.Run.{madeOf, runOf}
-use Rattle.words.specs.declared.Answer.{Answer}
-use Rattle.words.specs.Layout.{wordCount}
-use Rattle.words.specs.Reading.{rackOf}
-use Rattle.words.specs.Calls.{answerOf, makes, madeOutcome, leaves, runOutcome}
+use Rattle.layout.specs.declared.Answer.{Answer}
+use Rattle.layout.specs.Layout.{wordCount}
+use Rattle.layout.specs.Reading.{rackOf}
+use Rattle.layout.specs.Calls.{answerOf, makes, madeOutcome, leaves, runOutcome}
 
 -- ---- one outcome
 

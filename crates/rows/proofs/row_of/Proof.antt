@@ -1,9 +1,9 @@
--- `back::row_of` meets its contract. Assumes nothing.
+-- `rows::row_of` meets its contract. Assumes nothing.
 use Rattle.rows.specs.Row.{rowOf}
 use Rattle.number.specs.ValueLaws.{alternating-of-bits}
 use borrow.Author.Needs.{needs}
-use Rattle.back.proofs.row_of.Statement.{statement}
-use Rattle.back.proofs.row_of.Tie as tie
+use Rattle.rows.proofs.row_of.Statement.{statement}
+use Rattle.rows.proofs.row_of.Tie as tie
 
 enum-known-e : tie.Need-enum-known-e
 enum-known-e c = search needs
