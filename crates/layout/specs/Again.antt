@@ -65,18 +65,23 @@ module _ (r : Rack) (ws : List ℕ) (s : soundOf r ≡ true) (l : length ws ≡ 
   sound : Sound r
   sound = sound-of r s
 
+  -- its first five words
   abbrev head : List ℕ
   head = r .sizes .replicas ∷ r .sizes .clients ∷ r .sizes .cells ∷ r .power ∷ r .count ∷ []
 
+  -- the words of client i
   abbrev parties : ℕ → List ℕ
   parties i = partyWords (partyAt r i)
 
+  -- the words of the pair at place i, if the rack has it
   abbrev pairs : ℕ → List ℕ
   pairs i = pairWritten (r .sizes .cells) i (getD (r .pairs) i freshPair)
 
+  -- the words of slot i
   abbrev slots : ℕ → List ℕ
   slots i = slotWords (heldAt r i)
 
+  -- the words of entry i
   abbrev rows : ℕ → List ℕ
   rows i = rowOf (entryIn (r .lines) i)
 

@@ -17,6 +17,7 @@ pub record Outcome : Type 0 where
   pub answer : Answer
   pub lent : List ℕ
 
+-- how many events were done, and the refusal, 0 for none
 abbrev pub answerOf : ℕ → ℕ → Answer
 answerOf done refusal = record { done = done; refusal = refusal }
 
@@ -28,6 +29,7 @@ unfit ws = record { answer = answerOf 0 20; lent = ws }
 unfoldable pub makes : Made → Outcome
 makes m = record { answer = answerOf 0 (m .refusal); lent = writtenOf (m .rack) (replicate wordCount 0) }
 
+-- a rack of these sizes is made in the words ws
 unfoldable pub madeOutcome : ℕ → ℕ → ℕ → List ℕ → Outcome
 madeOutcome replicas clients cells ws = cond (eqb (length ws) wordCount) (makes (madeOf replicas clients cells)) (unfit ws)
 
@@ -35,5 +37,6 @@ madeOutcome replicas clients cells ws = cond (eqb (length ws) wordCount) (makes 
 unfoldable pub leaves : Ran → List ℕ → Outcome
 leaves q ws = record { answer = answerOf (q .done) (q .refusal); lent = cond (eqb (q .done) 0) ws (writtenOf (q .rack) ws) }
 
+-- the events es are run on the rack in the words ws, with an allowance
 unfoldable pub runOutcome : List ℕ → ℕ → List ℕ → Outcome
 runOutcome ws allowance es = cond (eqb (length ws) wordCount) (leaves (runOf (rackOf ws) allowance es) ws) (unfit ws)

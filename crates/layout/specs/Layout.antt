@@ -10,19 +10,23 @@ use Prim.Native.Nat.{ℕ, zero, suc, _+_, _*_}
 use mathlib.Core.List.{List, [], _∷_, _++_}
 use lib.ListN.{getD}
 
+-- how many words a rack takes
 abbrev pub wordCount : ℕ
 wordCount = 11301
 
--- where client i, the pair at place i, slot i and entry i stand
+-- where client i stands
 abbrev pub partyPlace : ℕ → ℕ
 partyPlace i = 5 + 10 * i
 
+-- where the pair at place i stands
 abbrev pub pairPlace : ℕ → ℕ
 pairPlace i = 85 + 3 * i
 
+-- where slot i stands
 abbrev pub slotPlace : ℕ → ℕ
 slotPlace i = 805 + 9 * i
 
+-- where entry i stands
 abbrev pub entryPlace : ℕ → ℕ
 entryPlace i = 3109 + 4 * i
 

@@ -26,10 +26,11 @@ use Rattle.stamps.specs.Stamp.{freshPair}
 use Rattle.rack.specs.Sound.{allBelow}
 use Rattle.layout.specs.Layout.{partyPlace, pairPlace, slotPlace, entryPlace, word, firsts}
 
--- a number that a byte or 16 bits can't hold is read as their greatest, which no rack has
+-- a number that a byte can't hold is read as 255, which no rack has
 unfoldable pub byteOf : ℕ → ℕ
 byteOf w = cond (ltb w 256) w 255
 
+-- a set that 16 bits can't hold is read as every bit, which no rack has
 unfoldable pub setOf : ℕ → ℕ
 setOf w = cond (ltb w 65536) w 65535
 
@@ -39,6 +40,7 @@ pairIn ws at = record { stamp = record { number = word ws at; rank = byteOf (wor
 
 -- ---- clients
 
+-- a read, or a write of a value
 unfoldable pub goalOf : ℕ → ℕ → Goal
 goalOf goal value = cond (eqb goal 0) Read (Write (signedOf value))
 
@@ -47,7 +49,7 @@ unfoldable pub workOf : ℕ → ℕ → Goal → ℕ → Pair → Work
 workOf phase cell goal set held =
     cond (eqb phase 1) (Asking (record { 0 = byteOf cell }) goal (setOf set) held) (Keeping (record { 0 = byteOf cell }) goal (setOf set) held)
 
--- at the place of a client's phase
+-- what a client is at, at the place of its phase
 unfoldable pub workIn : List ℕ → ℕ → Work
 workIn ws at =
     cond (eqb (word ws at) 0) Idle
@@ -57,10 +59,11 @@ workIn ws at =
 unfoldable pub partyKnown : ℕ → ℕ → ℕ → ℕ → Bool
 partyKnown stopped op phase goal = (ltb stopped 2 && ltb op 65536) && (ltb phase 3 && (eqb phase 0 || ltb goal 2))
 
--- no rack has cell 255
+-- a client that no rack has: its cell is 255
 abbrev pub strayParty : Party
 strayParty = record { stopped = false; op = 0; work = Keeping (record { 0 = 255 }) Read 0 freshPair }
 
+-- the client at a place; what is none is read as the stray one
 unfoldable pub partyIn : List ℕ → ℕ → Party
 partyIn ws at =
     cond (partyKnown (word ws at) (word ws (at + 1)) (word ws (at + 2)) (word ws (at + 4)))
@@ -69,6 +72,7 @@ partyIn ws at =
 
 -- ---- slots
 
+-- what a message says, by its number
 unfoldable pub bodyOf : ℕ → Pair → Body
 bodyOf body pair = cond (eqb body 0) Ask (cond (eqb body 1) (Tell pair) (cond (eqb body 2) (Keep pair) Kept))
 
@@ -76,10 +80,11 @@ bodyOf body pair = cond (eqb body 0) Ask (cond (eqb body 1) (Tell pair) (cond (e
 unfoldable pub messageKnown : ℕ → ℕ → ℕ → Bool
 messageKnown mark body op = eqb mark 1 && (ltb body 4 && ltb op 65536)
 
--- no rack has client 255
+-- a message that no rack has: its client is 255
 abbrev pub strayHeld : Held
 strayHeld = Full (record { client = record { 0 = 255 }; replica = record { 0 = 0 }; cell = record { 0 = 0 }; op = 0; body = Ask })
 
+-- the message of a full slot at a place
 unfoldable pub fullIn : List ℕ → ℕ → Held
 fullIn ws at =
     Full (record {
@@ -90,15 +95,18 @@ fullIn ws at =
       body = bodyOf (word ws (at + 1)) (pairIn ws (at + 6));
     })
 
+-- what the slot at a place holds; what is no message is read as the stray one
 unfoldable pub heldOf : List ℕ → ℕ → Held
 heldOf ws at =
     cond (eqb (word ws at) 0) Empty (cond (messageKnown (word ws at) (word ws (at + 1)) (word ws (at + 5))) (fullIn ws at) strayHeld)
 
+-- the slot at a place
 unfoldable pub slotIn : List ℕ → ℕ → Slot
 slotIn ws at = record { held = heldOf ws at }
 
 -- ---- entries
 
+-- the entry at a place
 unfoldable pub lineIn : List ℕ → ℕ → Line
 lineIn ws at = record { entry = entryOf (word ws at) (byteOf (word ws (at + 1))) (byteOf (word ws (at + 2))) (word ws (at + 3)) }
 
@@ -106,6 +114,7 @@ lineIn ws at = record { entry = entryOf (word ws at) (byteOf (word ws (at + 1)))
 unfoldable pub entryKnown : ℕ → ℕ → ℕ → Bool
 entryKnown kind client cell = ltb kind 4 && (ltb client 8 && (not (ltb kind 2) || ltb cell 16))
 
+-- whether an entry stands at a place
 unfoldable pub lineKnown : List ℕ → ℕ → Bool
 lineKnown ws at = entryKnown (word ws at) (word ws (at + 1)) (word ws (at + 2))
 
@@ -113,13 +122,15 @@ lineKnown ws at = entryKnown (word ws at) (word ws (at + 1)) (word ws (at + 2))
 abbrev pub blank : Line
 blank = record { entry = Done (record { 0 = 0 }) }
 
+-- the first n entries, and beyond them blank ones
 unfoldable pub linesIn : ℕ → List ℕ → List Line
 linesIn n ws = firsts n (λ i. lineIn ws (entryPlace i)) ++ drop n (replicate entryLimit blank)
 
--- how many entries there are to look at; a count that is no count is 2,049, more than a record holds
+-- how many entries there are to look at
 unfoldable pub countOf : List ℕ → ℕ
 countOf ws = min (word ws 4) entryLimit
 
+-- the count of entries: 2,049 where it is no count, or where one of them is no entry
 unfoldable pub countIn : List ℕ → ℕ
 countIn ws = cond (ltb entryLimit (word ws 4) || not (allBelow (countOf ws) (λ i. lineKnown ws (entryPlace i)))) 2049 (word ws 4)
 
@@ -129,6 +140,7 @@ countIn ws = cond (ltb entryLimit (word ws 4) || not (allBelow (countOf ws) (λ 
 unfoldable pub powerOf : ℕ → ℕ
 powerOf w = cond (ltb w 32768) w 0
 
+-- the three sizes
 unfoldable pub sizesIn : List ℕ → Sizes
 sizesIn ws =
     record {
@@ -137,6 +149,7 @@ sizesIn ws =
       cells = byteOf (word ws 2);
     }
 
+-- the rack that any words are read as
 unfoldable pub rackOf : List ℕ → Rack
 rackOf ws =
     record {

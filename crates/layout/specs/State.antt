@@ -18,12 +18,15 @@ use Rattle.layout.specs.Layout.{partyPlace, slotPlace, entryPlace, word}
 use Rattle.layout.specs.Reading.{byteOf, partyKnown, partyIn, messageKnown, heldOf, slotIn, lineKnown, countOf, countIn, sizesIn, rackOf}
 use Rattle.layout.specs.Firsts.{firsts-at}
 
+-- whether a client stands at a place
 abbrev pub partyKnownAt : List ℕ → ℕ → Bool
 partyKnownAt ws at = partyKnown (word ws at) (word ws (at + 1)) (word ws (at + 2)) (word ws (at + 4))
 
+-- whether a slot stands at a place
 abbrev pub slotKnownAt : List ℕ → ℕ → Bool
 slotKnownAt ws at = eqb (word ws at) 0 || messageKnown (word ws at) (word ws (at + 1)) (word ws (at + 5))
 
+-- the words are a state: power, count, entries, clients and slots are such
 pub record State (ws : List ℕ) : Type 0 where
   pub power : word ws 3 < 32768
   pub count : word ws 4 ≤ 2048

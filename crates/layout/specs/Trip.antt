@@ -98,13 +98,14 @@ line-again ws at e h s =
 
 -- ---- slots
 
--- a message names what bytes hold, and its operation number is at most 65,535
+-- the pair of a tell or a keep has a rank that a byte holds
 abbrev pub bodySmall : Body → Type 0
 bodySmall Ask = Unit {0}
 bodySmall (Tell p) = p .stamp .rank < 256
 bodySmall (Keep p) = p .stamp .rank < 256
 bodySmall Kept = Unit {0}
 
+-- a message names what bytes hold, and its operation number is at most 65,535
 pub record MessageSmall (m : Message) : Type 0 where
   pub client : m .client .0 < 256
   pub replica : m .replica .0 < 256
@@ -112,6 +113,7 @@ pub record MessageSmall (m : Message) : Type 0 where
   pub op : m .op < 65536
   pub body : bodySmall (m .body)
 
+-- so does the message of a slot
 abbrev pub heldSmall : Held → Type 0
 heldSmall Empty = Unit {0}
 heldSmall (Full m) = MessageSmall m
@@ -165,6 +167,7 @@ slot-again ws at (Full m) h s = full-again ws at m h s
 
 -- ---- clients
 
+-- an open operation names what bytes hold, and its set is of 16 bits
 abbrev pub workSmall : Work → Type 0
 workSmall Idle = Unit {0}
 workSmall (Asking cell goal set held) = (cell .0 < 256) × ((set < 65536) × (held .stamp .rank < 256))
@@ -188,6 +191,7 @@ told-again ws at set held h s = go (eqb set 0) s
     go true n = nothing-again ws at n
     go false n = pair-again ws at held h n
 
+-- the words of an open operation, and what it holds after them
 record Open (ws : List ℕ) (at phase : ℕ) (cell : Cell) (goal : Goal) (set : ℕ) (rest : List ℕ) : Type 0 where
   phases : word ws at ≡ phase
   cells : word ws (at + 1) ≡ cell .0

@@ -26,9 +26,11 @@ use Rattle.stamps.specs.Stamp.{freshPair}
 use Rattle.rack.specs.Places.{partyAt, heldAt}
 use Rattle.layout.specs.Layout.{partyPlace, pairPlace, slotPlace, entryPlace}
 
+-- a pair: number, rank, value
 unfoldable pub pairWords : Pair → List ℕ
 pairWords p = p .stamp .number ∷ p .stamp .rank ∷ alternatingOf (p .value) ∷ []
 
+-- where no pair is, three words 0
 abbrev pub noPair : List ℕ
 noPair = 0 ∷ 0 ∷ 0 ∷ []
 
@@ -43,32 +45,38 @@ unfoldable pub openWords : ℕ → Cell → Goal → ℕ → List ℕ
 openWords phase cell Read set = phase ∷ cell .0 ∷ 0 ∷ 0 ∷ set ∷ []
 openWords phase cell (Write v) set = phase ∷ cell .0 ∷ 1 ∷ alternatingOf v ∷ set ∷ []
 
+-- what a client is at
 unfoldable pub workWords : Work → List ℕ
 workWords Idle = replicate 8 0
 workWords (Asking cell goal set held) = openWords 1 cell goal set ++ toldWords set held
 workWords (Keeping cell goal set held) = openWords 2 cell goal set ++ pairWords held
 
+-- 1 for what is so, 0 for what isn't
 unfoldable pub flag : Bool → ℕ
 flag true = 1
 flag false = 0
 
+-- a client
 unfoldable pub partyWords : Party → List ℕ
 partyWords p = (flag (p .stopped) ∷ p .op ∷ []) ++ workWords (p .work)
 
 -- ---- slots
 
+-- the number of what a message says
 unfoldable pub bodyKind : Body → ℕ
 bodyKind Ask = 0
 bodyKind (Tell p) = 1
 bodyKind (Keep p) = 2
 bodyKind Kept = 3
 
+-- the pair of a tell or a keep
 unfoldable pub bodyWords : Body → List ℕ
 bodyWords Ask = noPair
 bodyWords (Tell p) = pairWords p
 bodyWords (Keep p) = pairWords p
 bodyWords Kept = noPair
 
+-- a slot, empty or full
 unfoldable pub slotWords : Held → List ℕ
 slotWords Empty = replicate 9 0
 slotWords (Full m) = (1 ∷ bodyKind (m .body) ∷ m .client .0 ∷ m .replica .0 ∷ m .cell .0 ∷ m .op ∷ []) ++ bodyWords (m .body)
@@ -80,9 +88,11 @@ unfoldable pub putFirsts : ℕ → (ℕ → ℕ) → (ℕ → List ℕ) → List
 putFirsts zero place f ws = ws
 putFirsts (suc n) place f ws = sets (putFirsts n place f ws) (place n) (f n)
 
+-- the first five words are written
 unfoldable pub headOf : Rack → List ℕ → List ℕ
 headOf r ws = sets ws 0 (r .sizes .replicas ∷ r .sizes .clients ∷ r .sizes .cells ∷ r .power ∷ r .count ∷ [])
 
+-- then the clients that the rack has
 unfoldable pub partiesPut : Rack → List ℕ → List ℕ
 partiesPut r ws = putFirsts (r .sizes .clients) partyPlace (λ i. partyWords (partyAt r i)) ws
 
@@ -90,9 +100,11 @@ partiesPut r ws = putFirsts (r .sizes .clients) partyPlace (λ i. partyWords (pa
 unfoldable pub pairWritten : ℕ → ℕ → Pair → List ℕ
 pairWritten cells i p = cond (ltb (i % 16) cells) (pairWords p) []
 
+-- then the pairs of its replicas and cells
 unfoldable pub pairsPut : Rack → List ℕ → List ℕ
 pairsPut r ws = putFirsts (16 * r .sizes .replicas) pairPlace (λ i. pairWritten (r .sizes .cells) i (getD (r .pairs) i freshPair)) ws
 
+-- then the slots of its wire
 unfoldable pub wirePut : Rack → List ℕ → List ℕ
 wirePut r ws = putFirsts 256 slotPlace (λ i. slotWords (heldAt r i)) ws
 
@@ -100,6 +112,7 @@ wirePut r ws = putFirsts 256 slotPlace (λ i. slotWords (heldAt r i)) ws
 abbrev pub entryIn : List Line → ℕ → Entry
 entryIn lines i = getD lines i (record { entry = ReadAsked (record { 0 = 0 }) (record { 0 = 0 }) }) .entry
 
+-- then the entries of its record
 unfoldable pub recordPut : Rack → List ℕ → List ℕ
 recordPut r ws = putFirsts (r .count) entryPlace (λ i. rowOf (entryIn (r .lines) i)) ws
 

@@ -6,7 +6,7 @@ use mathlib.Core.List.{List, [], _∷_}
 use native.Mathlib.Omega.{arith}
 use Rattle.record.specs.declared.Entry.{Entry}
 use Rattle.record.specs.Record.{Held, entries, fault, recordOf}
-use Rattle.record.specs.Refusals.{Named, record-faults, no-entries}
+use Rattle.record.specs.Refusals.{record-faults, no-entries}
 use Rattle.verdict.specs.declared.Verdict.the-variants.{Refused as saysRefused}
 use Rattle.verdict.specs.Verdict.{repeats, distinctFrom, distinct, takenFor, Judges}
 
