@@ -11,7 +11,7 @@ use Rattle.rack.specs.declared.Ran.{Ran}
 use Rattle.rack.specs.Fresh.{made-sound}
 use Rattle.rack.specs.Sound.{soundOf}
 use Rattle.rack.specs.Run.{madeOf, ranOf, runOf}
-use Rattle.show.specs.Lines.{ranText, faultLine}
+use Rattle.lines.specs.Lines.{ranText, faultLine}
 use Rattle.play.specs.Play.{startedOf, playedOf, textAfter, drillText}
 
 pub sound-made : (replicas clients cells : ℕ) (m : Made) → m ≡ madeOf replicas clients cells → soundOf (m .rack) ≡ true

@@ -10,7 +10,7 @@ use Rattle.script.specs.Script.{andThen, headOf, scriptOf}
 use Rattle.rack.specs.declared.Ran.{Ran}
 use Rattle.rack.specs.Sound.{sizesFit}
 use Rattle.rack.specs.Run.{madeOf}
-use Rattle.show.specs.Lines.{faultLine}
+use Rattle.lines.specs.Lines.{faultLine}
 use Rattle.play.specs.Play.{playedOf, drillText}
 
 -- ---- play

@@ -9,7 +9,7 @@ use Rattle.script.specs.Script.{eventsFrom, wordsOf, scriptOf}
 use Rattle.rack.specs.declared.Made.{Made}
 use Rattle.rack.specs.declared.Ran.{Ran}
 use Rattle.rack.specs.Run.{madeOf, ranOf, runOf}
-use Rattle.show.specs.Lines.{ranText, faultLine}
+use Rattle.lines.specs.Lines.{ranText, faultLine}
 
 -- a refused maker: nothing is run, and its rack and refusal are given
 abbrev pub startedOf : Made → ℕ → List ℕ → Ran

@@ -16,7 +16,7 @@ use Rattle.rack.specs.Sound.{soundOf}
 use Rattle.rack.specs.Run.{madeOf, ranOf, runOf}
 use Rattle.schedule.specs.Parts.{run-stays}
 use Rattle.text.specs.Text.{Printed}
-use Rattle.show.specs.Fits.{ran-fits, fault-fits}
+use Rattle.lines.specs.Fits.{ran-fits, fault-fits}
 use Rattle.play.specs.Play.{playedOf, textAfter, drillText}
 
 -- the rack that a script leaves is sound

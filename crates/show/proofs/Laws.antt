@@ -14,7 +14,7 @@ use Rattle.text.specs.Printing.{nothing, join, same-text, hex-append}
 use Rattle.record.specs.Entry.{entryBytes}
 use Rattle.record.specs.Record.{allOf, bytesOf}
 use Rattle.rack.specs.declared.Line.{Line}
-use Rattle.show.specs.Lines.{eachBelow}
+use Rattle.lines.specs.Lines.{eachBelow}
 
 -- ---- the texts of the numbers below n
 

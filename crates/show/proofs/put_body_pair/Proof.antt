@@ -2,7 +2,7 @@
 use mathlib.Core.Path.{sym, ap}
 use borrow.Author.Needs.{needs}
 use Rattle.text.specs.Printing.{nothing, same-text}
-use Rattle.show.specs.Lines.{bodyPair}
+use Rattle.lines.specs.Lines.{bodyPair}
 use Rattle.show.proofs.put_body_pair.Statement.{statement}
 use Rattle.show.proofs.put_body_pair.Tie as tie
 

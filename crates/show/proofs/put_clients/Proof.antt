@@ -6,7 +6,7 @@ use Rattle.text.specs.Text.{Printed}
 use Rattle.text.specs.Printing.{printed-length}
 use Rattle.show.proofs.Laws.{each-none, each-next, each-all}
 use Rattle.rack.specs.Places.{idle}
-use Rattle.show.specs.Lines.{eachBelow, clientLine}
+use Rattle.lines.specs.Lines.{eachBelow, clientLine}
 use Rattle.show.proofs.put_clients.Statement.{statement}
 use Rattle.show.proofs.put_clients.Tie as tie
 

@@ -2,7 +2,7 @@
 use mathlib.Core.Path.{sym, ap}
 use borrow.Author.Needs.{needs}
 use Rattle.text.specs.Printing.{same-text}
-use Rattle.show.specs.Lines.{kindText}
+use Rattle.lines.specs.Lines.{kindText}
 use Rattle.show.proofs.put_kind.Statement.{statement}
 use Rattle.show.proofs.put_kind.Tie as tie
 

@@ -5,7 +5,7 @@ use borrow.Author.Tests.{eq-eqb, ne-eqb}
 use Rattle.text.specs.Text.{Printed}
 use Rattle.text.specs.Printing.{printed-length}
 use Rattle.show.proofs.Laws.{each-none, each-next, each-all}
-use Rattle.show.specs.Lines.{eachBelow, memberText}
+use Rattle.lines.specs.Lines.{eachBelow, memberText}
 use Rattle.show.proofs.put_members.Statement.{statement}
 use Rattle.show.proofs.put_members.Tie as tie
 

@@ -8,8 +8,8 @@ use Rattle.text.specs.Printing.{printed-length}
 use Rattle.show.proofs.Laws.{each-none, each-next, each-all}
 use Rattle.stamps.specs.Stamp.{freshPair}
 use Rattle.rack.specs.Places.{pairPlace}
-use Rattle.show.specs.Words.{space}
-use Rattle.show.specs.Lines.{eachBelow, pairText}
+use Rattle.lines.specs.Words.{space}
+use Rattle.lines.specs.Lines.{eachBelow, pairText}
 use Rattle.show.proofs.put_pairs.Statement.{statement}
 use Rattle.show.proofs.put_pairs.Tie as tie
 

@@ -1,7 +1,7 @@
 -- `show::put_ran` meets its contract. Assumes nothing.
 use borrow.Author.Needs.{needs}
 use Rattle.text.specs.Printing.{join}
-use Rattle.show.specs.Lines.{ranText}
+use Rattle.lines.specs.Lines.{ranText}
 use Rattle.show.proofs.put_ran.Statement.{statement}
 use Rattle.show.proofs.put_ran.Tie as tie
 

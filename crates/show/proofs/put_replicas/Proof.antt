@@ -4,7 +4,7 @@ use borrow.Author.Needs.{needs}
 use Rattle.text.specs.Text.{Printed}
 use Rattle.text.specs.Printing.{printed-length}
 use Rattle.show.proofs.Laws.{each-none, each-next, each-all}
-use Rattle.show.specs.Lines.{eachBelow, replicaLine}
+use Rattle.lines.specs.Lines.{eachBelow, replicaLine}
 use Rattle.show.proofs.put_replicas.Statement.{statement}
 use Rattle.show.proofs.put_replicas.Tie as tie
 

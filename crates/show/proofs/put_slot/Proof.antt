@@ -2,7 +2,7 @@
 use mathlib.Core.Path.{sym, ap}
 use borrow.Author.Needs.{needs}
 use Rattle.text.specs.Printing.{nothing, join, same-text}
-use Rattle.show.specs.Lines.{slotLine}
+use Rattle.lines.specs.Lines.{slotLine}
 use Rattle.show.proofs.put_slot.Statement.{statement}
 use Rattle.show.proofs.put_slot.Tie as tie
 

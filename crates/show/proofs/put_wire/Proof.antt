@@ -5,7 +5,7 @@ use Rattle.text.specs.Text.{Printed}
 use Rattle.text.specs.Printing.{printed-length}
 use Rattle.show.proofs.Laws.{each-none, each-next, each-all}
 use Rattle.rack.specs.Places.{heldIn}
-use Rattle.show.specs.Lines.{eachBelow, slotLine}
+use Rattle.lines.specs.Lines.{eachBelow, slotLine}
 use Rattle.show.proofs.put_wire.Statement.{statement}
 use Rattle.show.proofs.put_wire.Tie as tie
 

@@ -2,7 +2,7 @@
 use mathlib.Core.Path.{sym, ap}
 use borrow.Author.Needs.{needs}
 use Rattle.text.specs.Printing.{same-text}
-use Rattle.show.specs.Lines.{workText}
+use Rattle.lines.specs.Lines.{workText}
 use Rattle.show.proofs.put_work.Statement.{statement}
 use Rattle.show.proofs.put_work.Tie as tie
 

@@ -14,7 +14,7 @@ use Rattle.method.specs.declared.Held.the-variants.{Full}
 use Rattle.method.specs.declared.Goal.the-variants.{Read, Write}
 use Rattle.method.specs.declared.Work.the-variants.{Idle, Asking, Keeping}
 use Rattle.rack.specs.declared.Ran.{Ran}
-use Rattle.show.specs.Lines.{eachBelow, slotLine, clientLine, sizesLine, ranText, faultLine}
+use Rattle.lines.specs.Lines.{eachBelow, slotLine, clientLine, sizesLine, ranText, faultLine}
 
 -- stamp (1, 0) with value 9
 abbrev nine : Pair

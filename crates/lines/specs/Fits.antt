@@ -32,8 +32,8 @@ use Rattle.rack.specs.declared.Ran.{Ran}
 use Rattle.rack.specs.Places.{partyAt, pairAt, heldAt, recordOf}
 use Rattle.rack.specs.Sound.{soundOf}
 use Rattle.rack.specs.SoundLaws.{sound-of}
-use Rattle.show.specs.Words.{doneStart, noneWord, replicaStart, clientStart, slotStart, recordStart, space, askingWord, keepingWord, fromNone, heldNone}
-use Rattle.show.specs.Lines.{eachBelow, pairText, kindText, bodyPair, namesText, messageText, slotLine, goalText, memberText, membersText, openText, heldText, firstHeld, workText, stoppedText, clientLine, powerText, pairsText, replicaLine, sizesLine, recordLine, rackText, refusalText, ranText, faultLine}
+use Rattle.lines.specs.Words.{doneStart, noneWord, replicaStart, clientStart, slotStart, recordStart, space, askingWord, keepingWord, fromNone, heldNone}
+use Rattle.lines.specs.Lines.{eachBelow, pairText, kindText, bodyPair, namesText, messageText, slotLine, goalText, memberText, membersText, openText, heldText, firstHeld, workText, stoppedText, clientLine, powerText, pairsText, replicaLine, sizesLine, recordLine, rackText, refusalText, ranText, faultLine}
 
 -- ---- pairs
 

@@ -1,0 +1,1 @@
+// What the lines of a run say: definitions and theorems, no code.
