@@ -43,8 +43,8 @@ use Rattle.rack.specs.Decided.{lookedHeld, lookedClient, lookedParty, lookedPla
 use Rattle.rack.specs.Fresh.{made-sound}
 use Rattle.slots.specs.Free.{firstFree}
 use Rattle.quorum.specs.Sets.{membersOf}
-use Rattle.schedule.specs.Stays.{set-either, stays, sound-stays}
-use Rattle.schedule.specs.Steps.{sound-from}
+use Rattle.runs.specs.Stays.{set-either, stays, sound-stays}
+use Rattle.runs.specs.Steps.{sound-from}
 use Rattle.back.specs.Standing.{openIn, Within, AllWithin, PairSmall, BodySmall, HeldSmall, WorkSmall, Small, Agrees}
 use Rattle.back.specs.Lines.{added, applied-adds, count-long}
 use Rattle.back.specs.Plans.{whose, needs, leaves, Enters, Noted, Keeps, OutcomeKeeps, EventSmall, plan-keeps}

@@ -43,8 +43,8 @@ use Rattle.rack.specs.Sound.{soundOf}
 use Rattle.rack.specs.Run.{madeOf, eventOf, decided, appliedOf, turn, runFrom, runOf}
 use Rattle.rack.specs.Decided.{lookedHeld, sight}
 use Rattle.rack.specs.Fresh.{made-sound}
-use Rattle.schedule.specs.Stays.{sound-stays}
-use Rattle.schedule.specs.Steps.{sound-from}
+use Rattle.runs.specs.Stays.{sound-stays}
+use Rattle.runs.specs.Steps.{sound-from}
 use Rattle.promise.specs.Promise.{promise}
 use Rattle.back.specs.Standing.{Agrees}
 use Rattle.back.specs.Writes.{writesBy, writesOf, Differ}

@@ -16,8 +16,8 @@ use Rattle.rack.specs.Sound.{soundOf}
 use Rattle.rack.specs.Run.{decided, appliedOf, freshRack, madeOf, runOf}
 use Rattle.rack.specs.Decided.{decided-fits}
 use Rattle.rack.specs.Counts.{sentBy, deliveredBy}
-use Rattle.schedule.specs.Stays.{sound-stays}
-use Rattle.schedule.specs.Loop.{applied-wire, room-after}
+use Rattle.runs.specs.Stays.{sound-stays}
+use Rattle.runs.specs.Loop.{applied-wire, room-after}
 use Rattle.counts.specs.Counts.{inUse, copiedBy, lostBy, tallyOf}
 use Rattle.counts.specs.PlanCounts.{decided-counts}
 use Rattle.counts.specs.Runs.{both, Adds, run-adds, unsound-none, made-fresh}

@@ -27,8 +27,8 @@ use Rattle.rack.specs.Run.{decided, recorded, entriesIn, appliedOf, freshRack, 
 use Rattle.rack.specs.SoundLaws.{sound-of}
 use Rattle.rack.specs.Fresh.{made-sound}
 use Rattle.rack.specs.Decided.{lookedClient, lookedParty, decided-fits}
-use Rattle.schedule.specs.Stays.{stays, sound-stays}
-use Rattle.schedule.specs.Loop.{applied-parties}
+use Rattle.runs.specs.Stays.{stays, sound-stays}
+use Rattle.runs.specs.Loop.{applied-parties}
 use Rattle.counts.specs.Counts.{countOf, requestsBy, resentBy, costIn, costOf, endsBy, endsOf}
 use Rattle.counts.specs.Costing.{resent-none}
 use Rattle.counts.specs.PlanCounts.{endsIn, PlanCounts, decided-counts}

@@ -16,7 +16,7 @@ use Rattle.rack.specs.declared.Made.{Made}
 use Rattle.rack.specs.Sound.{sizesFit, soundOf}
 use Rattle.rack.specs.Run.{eventOf, decided, appliedOf, turn, ranOf, runFrom, runOf, freshRack, madeOf}
 use Rattle.rack.specs.Counts.{counted, countOver}
-use Rattle.schedule.specs.Steps.{sound-from, run-steps}
+use Rattle.runs.specs.Steps.{sound-from, run-steps}
 use Rattle.counts.specs.Counts.{countOf}
 
 -- ---- two counts at once

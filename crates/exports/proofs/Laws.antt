@@ -25,7 +25,7 @@ use Rattle.verdict.specs.declared.Verdict.the-variants.{Lawful as saysLawful, U
 use Rattle.record.specs.declared.Answer.{Answer}
 use Rattle.record.specs.declared.Answer.the-variants.{All, Refused as Unread}
 use Rattle.rack.specs.Run.{madeOf, runOf}
-use Rattle.schedule.specs.Steps.{run-steps}
+use Rattle.runs.specs.Steps.{run-steps}
 use Rattle.layout.specs.declared.Answer.{Answer as Done}
 use Rattle.layout.specs.Layout.{wordCount}
 use Rattle.layout.specs.Reading.{rackOf}

@@ -17,8 +17,8 @@ use Rattle.rack.specs.declared.Rack.{Rack}
 use Rattle.rack.specs.declared.Ran.{Ran}
 use Rattle.rack.specs.Sound.{soundOf}
 use Rattle.rack.specs.Run.{eventOf, decided, appliedOf, turn, ranOf, runFrom, runOf}
-use Rattle.schedule.specs.Steps.{sound-from, run-steps, parts-off, used-up, too-few}
-use Rattle.schedule.specs.Parts.{later, run-parts, run-stays}
+use Rattle.runs.specs.Steps.{sound-from, run-steps, parts-off, used-up, too-few}
+use Rattle.runs.specs.Parts.{later, run-parts, run-stays}
 
 -- ---- n events look at their own words only
 

@@ -14,7 +14,7 @@ use Rattle.rack.specs.declared.Made.{Made}
 use Rattle.rack.specs.Fresh.{made-sound}
 use Rattle.rack.specs.Sound.{soundOf}
 use Rattle.rack.specs.Run.{madeOf, ranOf, runOf}
-use Rattle.schedule.specs.Parts.{run-stays}
+use Rattle.runs.specs.Parts.{run-stays}
 use Rattle.text.specs.Text.{Printed}
 use Rattle.lines.specs.Fits.{ran-fits, fault-fits}
 use Rattle.play.specs.Play.{playedOf, textAfter, drillText}

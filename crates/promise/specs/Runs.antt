@@ -23,7 +23,7 @@ use Rattle.rack.specs.Sound.{owed, soundOf}
 use Rattle.rack.specs.Run.{freshRack, inRack, checked, decided, entriesIn, appliedOf, eventOf, turn, ranOf, runFrom, runOf}
 use Rattle.rack.specs.SoundLaws.{Sound, sound-of}
 use Rattle.rack.specs.Decided.{lookedHeld, lookedClient, Decided, decided-fits, checked-go, sight}
-use Rattle.schedule.specs.Stays.{stays, sound-stays}
+use Rattle.runs.specs.Stays.{stays, sound-stays}
 use Rattle.protocol.specs.View.{View}
 use Rattle.protocol.specs.Move.{fresh, first}
 use Rattle.method.specs.Method.{Does}

@@ -15,7 +15,7 @@ use Rattle.rack.specs.declared.Slot.{Slot}
 use Rattle.method.specs.Plan.{messageOf}
 use Rattle.rack.specs.Places.{empty, full, heldIn, freeAt, sentOf}
 use Rattle.rack.specs.Run.{addressed, cleared}
-use Rattle.schedule.specs.Stays.{set-either}
+use Rattle.runs.specs.Stays.{set-either}
 use Rattle.protocol.specs.View.{Setting, View}
 use Rattle.protocol.specs.Move.{put}
 use Rattle.protocol.specs.Invariant.{Invariant}

@@ -7,8 +7,8 @@ use native.Mathlib.Omega.{arith}
 use lib.ListN.{length}
 use lib.Pow.{pow-pos}
 use lib.Count.{trailingZeros}
-use Rattle.schedule.specs.Sending.{sending-place, sending-more}
-use Rattle.schedule.specs.Loop.{Most, Going, going-start, going-out, going-no, not-there, there-slot, there, going-plan, room-fits, going-send, going-entry, going-on, Shipping, shipping-more, shipping-end, entry-place, asked-one, ended-one, turned-none, turned-asked, turned-ended}
+use Rattle.runs.specs.Sending.{sending-place, sending-more}
+use Rattle.runs.specs.Loop.{Most, Going, going-start, going-out, going-no, not-there, there-slot, there, going-plan, room-fits, going-send, going-entry, going-on, Shipping, shipping-more, shipping-end, entry-place, asked-one, ended-one, turned-none, turned-asked, turned-ended}
 use Rattle.schedule.proofs.go_on.Statement.{statement}
 use Rattle.schedule.proofs.go_on.Tie as tie
 

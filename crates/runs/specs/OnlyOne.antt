@@ -16,7 +16,7 @@ use Rattle.rack.specs.Sound.{sizesFit, owes, owedBy, owedBelow, owed}
 use Rattle.method.specs.About.{clientIn, clientOf}
 use Rattle.rack.specs.Run.{freshRack, byte, eventOf, inRack, slotOf, placeIn, noted, freed, checked, decided, addressed, cleared, recorded, entriesIn, appliedOf, turn, ranOf, runFrom, runOf}
 use Rattle.rack.specs.Fresh.{fresh-sound}
-use Rattle.schedule.specs.Steps.{run-steps, sound-from}
+use Rattle.runs.specs.Steps.{run-steps, sound-from}
 
 -- ---- run, step
 

@@ -32,9 +32,9 @@ use Rattle.method.specs.About.{clientOf}
 use Rattle.rack.specs.Run.{inRack, slotOf, placeIn, freed, checked, decided, addressed, cleared, recorded, entriesIn, appliedOf, turn, ranOf, runFrom}
 use Rattle.rack.specs.SoundLaws.{sound-of}
 use Rattle.rack.specs.Decided.{lookedClient, lookedPlace, Looked, looked, Decided, decided-fits}
-use Rattle.schedule.specs.Stays.{stays, sound-stays}
-use Rattle.schedule.specs.Steps.{eventAt, tried, used-up, ended}
-use Rattle.schedule.specs.Sending.{room-most, slotAfter, cleared-is, cleared-room, Sending, sending-start, sending-end, sent-long, sent-room}
+use Rattle.runs.specs.Stays.{stays, sound-stays}
+use Rattle.runs.specs.Steps.{eventAt, tried, used-up, ended}
+use Rattle.runs.specs.Sending.{room-most, slotAfter, cleared-is, cleared-room, Sending, sending-start, sending-end, sent-long, sent-room}
 
 -- ---- the rack after a plan, in parts
 

@@ -12,8 +12,8 @@ use Rattle.rack.specs.declared.Rack.{Rack}
 use Rattle.rack.specs.declared.Ran.{Ran}
 use Rattle.rack.specs.Sound.{soundOf}
 use Rattle.rack.specs.Run.{eventOf, decided, appliedOf, turn, ranOf, runFrom, runOf}
-use Rattle.schedule.specs.Steps.{sound-from, parts-on}
-use Rattle.schedule.specs.Stays.{sound-stays}
+use Rattle.runs.specs.Steps.{sound-from, parts-on}
+use Rattle.runs.specs.Stays.{sound-stays}
 
 -- ---- every rack of a run is sound
 

@@ -20,7 +20,7 @@ use Rattle.rack.specs.Places.{empty, full, heldIn, isEmpty, freeAt, roomOf, sen
 use Rattle.method.specs.Plan.{messageOf}
 use Rattle.rack.specs.Run.{freed, cleared, addressed}
 use Rattle.quorum.specs.Sets.{membersOf}
-use Rattle.schedule.specs.Members.{members-next, members-none, ones-rest}
+use Rattle.runs.specs.Members.{members-next, members-none, ones-rest}
 
 -- the lowest free slot of a wire
 abbrev pub lowestIn : List Slot → ℕ

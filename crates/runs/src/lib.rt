@@ -1,0 +1,1 @@
+// What holds of every schedule, by its definition: definitions and theorems, no code.
