@@ -54,5 +54,5 @@ pub fn write_record_of(rack: Rack, bytes: &mut [u8]) -> Answer
     let n = entries_in(lines, rack.count);
     let mut rows = [0u32; 8192];
     store_lines(lines, n, &mut rows);
-    rows::write_record(&rows[..4 * n], bytes)
+    writer::write_record(&rows[..4 * n], bytes)
 }

@@ -74,7 +74,7 @@ pub extern "C" fn adze_read_record(bytes: &[u8], rows: &mut [u32]) -> u64
 pub extern "C" fn adze_write_record(rows: &[u32], bytes: &mut [u8]) -> u64
     ensures { λ r. ⌜ (r ≡ packedAnswer (writeOutcome (now (rows .entry)) (now (bytes .entry)) .answer)) × (now (bytes .exit) ≡ writeOutcome (now (rows .entry)) (now (bytes .entry)) .lent) ⌝ }
 {
-    let a = rows::write_record(rows, bytes);
+    let a = writer::write_record(rows, bytes);
     packed(a)
 }
 

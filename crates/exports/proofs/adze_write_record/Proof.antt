@@ -8,7 +8,7 @@ use Rattle.exports.proofs.adze_write_record.Tie as tie
 use Rattle.exports.proofs.adze_write_record.Reads as reads
 use Rattle.exports.proofs.adze_write_record.Lts as lts
 use Rattle.exports.proofs.packed.Reads as packed-reads
-use Rattle.rows.proofs.write_record.Reads as write-record-reads
+use Rattle.writer.proofs.write_record.Reads as write-record-reads
 
 write-record-requires : tie.Need-write-record-requires
 write-record-requires c κs = search needs
