@@ -5,8 +5,12 @@ use libc::STDOUT_FILENO;
 // The longest script that is taken has one byte less.
 const TOO_LONG: usize = 4194305;
 
-// Writes what there is to say of a script.
+// Writes what there is to say of a script. A part of one is not run.
 fn say(script: &[u8]) {
+    if !input::ended() {
+        io::write_all(STDOUT_FILENO, b"input can't be read to its end\n");
+        return;
+    }
     let mut lines = [0u8; 262144];
     let n = play::drill(script, &mut lines);
     io::write_all(STDOUT_FILENO, &lines[..n]);

@@ -1,4 +1,4 @@
-// What is left of standard input, when the program has what it takes.
+// How standard input ends, and what is left of it when the program has what it takes.
 use libc::STDIN_FILENO;
 
 // Reads once more, drops what came, and answers whether there may be more.
@@ -14,4 +14,11 @@ pub fn drop_rest() {
     while turns > 0 && drop_some() {
         turns -= 1;
     }
+}
+
+// Whether the input has ended. The kit's reading stops at the end of the input and at a failed read alike; one read more tells which it was:
+// it gives 0 at the end only.
+pub fn ended() -> bool {
+    let mut rest = io::buffer();
+    libc::read(STDIN_FILENO, &mut rest) == 0
 }

@@ -17,6 +17,10 @@ fn main() {
     let n = io::read_full(STDIN_FILENO, &mut bytes);
     if n == DECIDES {
         input::drop_rest();
+    } else if !input::ended() {
+        // A part of a record is not judged: it may be lawful where the whole isn't.
+        io::write_all(STDOUT_FILENO, b"input can't be read to its end\n");
+        return;
     }
     say(&bytes[..n]);
 }
