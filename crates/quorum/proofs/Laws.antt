@@ -8,7 +8,8 @@ use lib.Bits.{bitOr}
 use lib.Dec.{ltb}
 use lib.Pow.{shl-exact, pow-pos, pow-mono}
 use borrow.Author.Tests.{lt-ltb}
-use Rattle.quorum.specs.Sets.{setBits, hasReplica, withReplica, everyReplica, within, withoutReplica}
+use Rattle.slots.specs.Bits.{trailing-lt, trailing-room}
+use Rattle.quorum.specs.Sets.{setBits, hasReplica, withReplica, everyReplica, within, withoutReplica, lowestOf, restOf}
 use Rattle.quorum.specs.Laws.{has-beyond, has-below, with-beyond, bit-at-most}
 
 pub one-shl : (k : ℕ) → k < 16 → 1 * 2 ^ k % 65536 ≡ 2 ^ k
@@ -58,3 +59,23 @@ without-bit s k h e = rw (one-shl k (has-sixteen s k h e), e)
 pub without-none : (s k : ℕ) → hasReplica s k ≡ false → s ≡ withoutReplica s k
 unfolding withoutReplica
 without-none s k e = rw e
+
+pub rest-none : (s : ℕ) → s ≡ 0 → 0 ≡ restOf s
+unfolding restOf
+rest-none s e = omega arith
+
+module _ (s k : ℕ) (h : s < 65536) (some : s ≡ 0 → ⊥) (e : k ≡ lowestOf s) where
+  positive : 0 < s
+  positive = omega (arith, some)
+
+  pub lowest-sixteen : k < 16
+  unfolding lowestOf setBits
+  lowest-sixteen = omega (arith, e, trailing-lt 16 s h positive)
+
+  pub rest-room : 1 * 2 ^ k % 65536 ≤ s
+  unfolding lowestOf setBits
+  rest-room = rw (one-shl k lowest-sixteen, e) (trailing-room 16 s positive)
+
+  pub rest-is : s - 1 * 2 ^ k % 65536 ≡ restOf s
+  unfolding restOf
+  rest-is = rw (one-shl k lowest-sixteen, e)

@@ -3,9 +3,9 @@ use Prim.Native.Nat.{ℕ, _≤_, _<_}
 use mathlib.Core.Bool.{Bool, true, false, not, _&&_, _||_}
 use mathlib.Core.Path.{_≡_, _∙_, sym}
 use native.Mathlib.Omega.{arith}
-use lib.Count.{ones}
+use lib.Count.{ones, trailingZeros}
 use lib.Dec.{eqb, ltb}
-use Rattle.quorum.specs.Sets.{setBits, hasReplica, withReplica, withoutReplica, countOf, majority, asksEnough, keepsEnough, everyReplica, others, within}
+use Rattle.quorum.specs.Sets.{setBits, hasReplica, withReplica, withoutReplica, countOf, majority, asksEnough, keepsEnough, everyReplica, others, within, lowestOf, restOf}
 use Rattle.quorum.specs.Laws.{same-members, has-with, has-every, has-others}
 use Rattle.quorum.specs.Sheet.{half-of-4, most-of-4, other-three, one-more, not-of-4}
 
@@ -118,3 +118,31 @@ not-themselves r p q = omega (arith, other-three)
 
 pub not-all-five : (r : ℕ) → r ≡ others 5 0b01010 → r ≡ 0b11111 → ⊥
 not-all-five r p q = omega (arith, other-three)
+
+-- ---- lowest
+
+pub one-lowest : (s r r′ : ℕ) → r ≡ lowestOf s → r′ ≡ lowestOf s → r ≡ r′
+one-lowest s r r′ p q = p ∙ sym q
+
+-- of replicas 1 and 3 it is 1: neither the highest, nor replica 0, which isn't there
+pub not-highest : (r : ℕ) → r ≡ lowestOf 0b01010 → r ≡ 3 → ⊥
+unfolding lowestOf setBits trailingZeros
+not-highest r p q = let e : r ≡ 1 = p in omega arith
+
+pub not-first : (r : ℕ) → r ≡ lowestOf 0b01010 → r ≡ 0 → ⊥
+unfolding lowestOf setBits trailingZeros
+not-first r p q = let e : r ≡ 1 = p in omega arith
+
+-- ---- rest
+
+pub one-rest : (s r r′ : ℕ) → r ≡ restOf s → r′ ≡ restOf s → r ≡ r′
+one-rest s r r′ p q = p ∙ sym q
+
+-- of replicas 1 and 3 replica 3 is left: not both, and not replica 1
+pub not-both-left : (r : ℕ) → r ≡ restOf 0b01010 → r ≡ 0b01010 → ⊥
+unfolding restOf lowestOf setBits trailingZeros
+not-both-left r p q = let e : r ≡ 0b01000 = p in omega arith
+
+pub not-lowest-left : (r : ℕ) → r ≡ restOf 0b01010 → r ≡ 0b00010 → ⊥
+unfolding restOf lowestOf setBits trailingZeros
+not-lowest-left r p q = let e : r ≡ 0b01000 = p in omega arith

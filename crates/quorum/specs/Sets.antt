@@ -4,7 +4,7 @@ use mathlib.Core.Bool.{Bool, true, false, cond}
 use mathlib.Core.List.{List, [], _∷_}
 use lib.Dec.{ltb, eqb}
 use lib.Bits.{bitAnd, bitOr}
-use lib.Count.{ones}
+use lib.Count.{ones, trailingZeros}
 
 -- how many replicas a set has bits for
 unfoldable pub setBits : ℕ
@@ -63,3 +63,11 @@ membersOf n set = membersFrom n 0 set
 -- the set without replica k
 unfoldable pub withoutReplica : ℕ → ℕ → ℕ
 withoutReplica set k = cond (hasReplica set k) (set - 2 ^ k) set
+
+-- the lowest replica of the set: as many zeros stand below its lowest one; of no replicas setBits
+unfoldable pub lowestOf : ℕ → ℕ
+lowestOf set = trailingZeros setBits set
+
+-- the set without its lowest replica: without that bit
+unfoldable pub restOf : ℕ → ℕ
+restOf set = set - 2 ^ lowestOf set

@@ -1,7 +1,7 @@
 // The replicas that have answered: a set, one bit each, and the ones are counted.
 ghost use mathlib.Core.Path.{_≡_};
 ghost use Prim.Native.Nat.{_≤_, _<_};
-ghost use Rattle.quorum.specs.Sets.{hasReplica, withReplica, countOf, asksEnough, keepsEnough, everyReplica, others, within, withoutReplica, majority};
+ghost use Rattle.quorum.specs.Sets.{hasReplica, withReplica, countOf, asksEnough, keepsEnough, everyReplica, others, within, withoutReplica, majority, lowestOf, restOf};
 use record::Replica;
 
 // How many replicas a set has bits for.
@@ -101,4 +101,21 @@ pub fn within(n: u8, set: u16) -> bool
         return true;
     }
     set < (1u16 << n)
+}
+
+// The lowest replica of the set.
+pub fn lowest(set: u16) -> u8
+    ensures { λ r. ⌜ r ≡ lowestOf set ⌝ }
+{
+    u16::trailing_zeros(set) as u8
+}
+
+// The set without its lowest replica.
+pub fn rest(set: u16) -> u16
+    ensures { λ r. ⌜ r ≡ restOf set ⌝ }
+{
+    if set == 0 {
+        return 0;
+    }
+    set - (1u16 << lowest(set))
 }

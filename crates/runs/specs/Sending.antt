@@ -6,7 +6,7 @@ use mathlib.Core.List.{List, [], _∷_}
 use native.Mathlib.Omega.{arith}
 use lib.Dec.{eqb}
 use borrow.Author.Tests.{eqb-true, eqb-false}
-use lib.Count.{ones, trailingZeros}
+use lib.Count.{ones}
 use lib.ListN.{getD, set, length, length-set}
 use lib.Seq.{getD-set-same, getD-set-other, set-getD}
 use Rattle.slots.specs.Free.{countFrom, firstFree, takenAt, markedAt}
@@ -19,8 +19,8 @@ use Rattle.rack.specs.declared.Slot.{Slot}
 use Rattle.rack.specs.Places.{empty, full, heldIn, isEmpty, freeAt, roomOf, sentOf}
 use Rattle.method.specs.Plan.{messageOf}
 use Rattle.rack.specs.Run.{freed, cleared, addressed}
-use Rattle.quorum.specs.Sets.{membersOf}
-use Rattle.runs.specs.Members.{members-next, members-none, ones-rest}
+use Rattle.quorum.specs.Sets.{membersOf, lowestOf, restOf}
+use Rattle.quorum.specs.Lowest.{members-next, members-none, rest-less, ones-rest}
 
 -- the lowest free slot of a wire
 abbrev pub lowestIn : List Slot → ℕ
@@ -161,22 +161,22 @@ module _ (n : ℕ) (v : List Slot) (m : Message) (to : ℕ) (w : List Slot) (fre
   pub sending-place : 0 < left → (after : List ℕ) (f : ℕ) → Took (freeAt w) after f → f < 256
   sending-place l after f t = omega (arith, t .slot, low-free w (sending-room l) .below)
 
-  pub sending-more : 0 < left → (after : List ℕ) (f k x : ℕ) (y : Message) → Took (freeAt w) after f → k ≡ trailingZeros 16 left
-      → x ≡ left - 2 ^ trailingZeros 16 left → y ≡ messageTo m k → Sending n v m to (set w f (full y)) after x
+  pub sending-more : 0 < left → (after : List ℕ) (f k x : ℕ) (y : Message) → Took (freeAt w) after f → k ≡ lowestOf left
+      → x ≡ restOf left → y ≡ messageTo m k → Sending n v m to (set w f (full y)) after x
   sending-more l after f k x y t ek ex ey =
       let h : f < 256 = sending-place l after f t in
-      let e : set w f (full y) ≡ set w (lowestIn w) (full (messageTo m (trailingZeros 16 left))) =
+      let e : set w f (full y) ≡ set w (lowestIn w) (full (messageTo m (lowestOf left))) =
       ap (λ (i : ℕ). set w i (full y)) (t .slot) ∙ ap (λ (z : Message). set w (lowestIn w) (full z)) (ey ∙ ap (messageTo m) ek) in
-      let q : membersOf n left ≡ trailingZeros 16 left ∷ membersOf n x =
-      members-next n left (s .most) (s .small) l ∙ ap (λ (z : ℕ). trailingZeros 16 left ∷ membersOf n z) (sym ex) in
+      let q : membersOf n left ≡ lowestOf left ∷ membersOf n x =
+      members-next n left (s .most) (s .small) l ∙ ap (λ (z : ℕ). lowestOf left ∷ membersOf n z) (sym ex) in
       let o : ones x + 1 ≡ ones left = ap (λ (z : ℕ). ones z + 1) ex ∙ ones-rest n left (s .most) (s .small) l in
-      let r : roomOf (set w f (full y)) + 1 ≡ roomOf w = ap (λ (z : List Slot). roomOf z + 1) e ∙ sent-one w (messageTo m (trailingZeros 16 left)) (s .long) (sending-room l) in
+      let r : roomOf (set w f (full y)) + 1 ≡ roomOf w = ap (λ (z : List Slot). roomOf z + 1) e ∙ sent-one w (messageTo m (lowestOf left)) (s .long) (sending-room l) in
       record {
-        sent = s .sent ∙ sent-next n w m left (trailingZeros 16 left) x q ∙ ap (λ (z : List Slot). sentOf z (addressed m (membersOf n x))) (sym e);
+        sent = s .sent ∙ sent-next n w m left (lowestOf left) x q ∙ ap (λ (z : List Slot). sentOf z (addressed m (membersOf n x))) (sym e);
         tied = tied-same 4 (takenAt (freeAt w) f) (freeAt (set w f (full y))) after (t .left) (λ k b. free-taken w f y (omega (arith, s .long)) k);
         enough = omega (arith, s .enough, o, r);
         long = length-set w f (full y) ∙ s .long;
-        small = omega (arith, s .small);
+        small = omega (arith, rest-less left l, s .small);
         most = s .most;
       }
 

@@ -2,8 +2,8 @@
 ghost use mathlib.Core.Path.{_≡_};
 ghost use mathlib.Core.Bool.{true};
 ghost use mathlib.Core.List.{[], _∷_};
-ghost use Prim.Native.Nat.{_+_, _-_, _*_, _^_, _<_, _≤_};
-ghost use lib.Count.{ones, trailingZeros};
+ghost use Prim.Native.Nat.{_+_, _-_, _*_, _<_, _≤_};
+ghost use lib.Count.{ones};
 ghost use lib.ListN.{length};
 ghost use Rattle.slots.specs.Words.{Tied};
 ghost use Rattle.rack.specs.Places.{isEmpty, freeAt, roomOf};
@@ -57,23 +57,6 @@ fn most(allowance: usize, words: usize) -> usize
 }
 
 // ---- what is sent
-
-// The lowest replica of a set.
-fn lowest(set: u16) -> u8
-    requires { ⌜ 0 < set ⌝ }
-    ensures { λ r. ⌜ (r ≡ trailingZeros 16 set) × (r < 16) ⌝ }
-{
-    u16::trailing_zeros(set) as u8
-}
-
-// The set without it.
-fn others(set: u16) -> u16
-    requires { ⌜ 0 < set ⌝ }
-    ensures { λ r. ⌜ r ≡ set - 2 ^ trailingZeros 16 set ⌝ }
-{
-    let k = lowest(set);
-    set - (1u16 << k)
-}
 
 // The message to replica k.
 fn message_to(m: Message, k: u8) -> Message
@@ -219,8 +202,8 @@ fn go_on(mut r: Rack, start: Start, allowance: usize, events: &[u32]) -> Ran
                 let message = p.message;
                 let mut left = p.to;
                 while 0 < left {
-                    let to = message_to(message, lowest(left));
-                    left = others(left);
+                    let to = message_to(message, quorum::lowest(left));
+                    left = quorum::rest(left);
                     let f = slots::take(&mut free);
                     let full = Held::Full(to);
                     r.wire[f] = Slot { held: full };

@@ -5,8 +5,7 @@ use Prim.Native.Nat.{_-_, _<_, _≤_}
 use mathlib.Core.Path.{refl, sym, _∙_}
 use native.Mathlib.Omega.{arith}
 use lib.ListN.{length}
-use lib.Pow.{pow-pos}
-use lib.Count.{trailingZeros}
+use Rattle.quorum.specs.Lowest.{rest-less}
 use Rattle.runs.specs.Sending.{sending-place, sending-more}
 use Rattle.runs.specs.Loop.{Most, Going, going-start, going-out, going-no, not-there, there-slot, there, going-plan, room-fits, going-send, going-entry, going-on, Shipping, shipping-more, shipping-end, entry-place, asked-one, ended-one, turned-none, turned-asked, turned-ended}
 use Rattle.schedule.proofs.go_on.Statement.{statement}
@@ -130,13 +129,13 @@ loop2-holds : tie.Need-loop2-holds Inv-loop2 μ-loop2 Inv-loop μ-loop
 loop2-holds c = record { same = refl; send = going-send _ _ _ _ _ _ _ (c .before .before .before .before .before .before .before .before .before .before .before .before .before .before .before .before .before .before .before .before .before .before .before .before .before .loop .inv .2) _ _ (c .before .before .before .before .before .before .before .before .before .outcome2 .given .0 .0) _ _ (going-plan _ _ _ _ _ _ _ (c .before .before .before .before .before .before .before .before .before .before .before .before .before .before .before .before .before .before .before .before .before .before .before .before .before .loop .inv .2) _ _ _ _ _ _ (sym (c .before .before .before .before .before .before .before .before .before .before .before .before .before .before .before .before .before .before .before .before .before .in-rack .ensures) ∙ not-false _ (c .before .before .before .before .before .before .before .before .before .before .before .before .before .before .before .before .before .before .before .before .if1 .left)) (c .before .before .before .before .before .before .before .before .before .before .before .before .before .before .before .before .before .before .before .slot-of .ensures) (c .before .before .before .before .before .before .before .before .before .before .before .before .before .before .before .before .before .client-of .ensures) (c .before .before .before .before .before .before .before .before .before .before .before .before .before .before .before .before .place-in .ensures) (c .before .before .before .before .before .before .before .before .before .before .before .before .before .plan .ensures) (c .before .before .before .before .before .before .before .before .before .before .before .checked .ensures) ∙ c .before .before .before .before .before .before .before .before .before .outcome2 .given .1) (c .before .before .before .before .before .before .before .before .before .before .before .before .before .before .before .before .before .before .before .slot-of .ensures) (c .before .before .before .slot-after .ensures) (c .before .mark .ensures) }
 
 lowest-requires : tie.Need-lowest-requires Inv-loop2 μ-loop2 Inv-loop μ-loop
-lowest-requires c κs = search needs
+lowest-requires c κs = tt
 
 message-to-requires : tie.Need-message-to-requires Inv-loop2 μ-loop2 Inv-loop μ-loop
 message-to-requires c κs = search needs
 
-others-requires : tie.Need-others-requires Inv-loop2 μ-loop2 Inv-loop μ-loop
-others-requires c κs = search needs
+rest-requires : tie.Need-rest-requires Inv-loop2 μ-loop2 Inv-loop μ-loop
+rest-requires c κs = tt
 
 take-requires : tie.Need-take-requires Inv-loop2 μ-loop2 Inv-loop μ-loop
 take-requires c κs = search needs
@@ -148,12 +147,12 @@ element-set-from-r-2 : tie.Need-element-set-from-r-2 Inv-loop2 μ-loop2 Inv-loop
 element-set-from-r-2 c = sending-place _ _ _ _ _ _ _ ((c .before .before .before .before .before .before .loop2 .inv) .send) (c .before .before .before .before .before .loop2-test .taken) _ _ (c .take .ensures .1 _ ((c .before .before .before .before .before .before .loop2 .inv) .send .tied))
 
 loop2-less : tie.Need-loop2-less Inv-loop2 μ-loop2 Inv-loop μ-loop
-loop2-less c = omega (arith, c .before .before .others .ensures, pow-pos (trailingZeros 16 (c .before .before .before .before .before .before .loop2 .left)), (c .before .before .before .before .before .loop2-test .taken))
+loop2-less c = omega (arith, c .before .before .rest .ensures, rest-less _ (c .before .before .before .before .before .loop2-test .taken))
 
 loop2-again : tie.Need-loop2-again Inv-loop2 μ-loop2 Inv-loop μ-loop
 loop2-again c =
     shipping-more _ _ _ _ _ _ (c .before .before .before .before .before .before .loop2 .inv) _ _ _
-    (sending-more _ _ _ _ _ _ _ ((c .before .before .before .before .before .before .loop2 .inv) .send) (c .before .before .before .before .before .loop2-test .taken) _ _ _ _ _ (c .take .ensures .1 _ ((c .before .before .before .before .before .before .loop2 .inv) .send .tied)) (c .before .before .before .before .lowest .ensures .0) (c .before .before .others .ensures) (c .before .before .before .message-to .ensures))
+    (sending-more _ _ _ _ _ _ _ ((c .before .before .before .before .before .before .loop2 .inv) .send) (c .before .before .before .before .before .loop2-test .taken) _ _ _ _ _ (c .take .ensures .1 _ ((c .before .before .before .before .before .before .loop2 .inv) .send .tied)) (c .before .before .before .before .lowest .ensures) (c .before .before .rest .ensures) (c .before .before .before .message-to .ensures))
 
 add-i : tie.Need-add-i Inv-loop2 μ-loop2 Inv-loop μ-loop
 add-i c = record { fits = omega (arith, (c .before .before .before .before .before .before .before .before .before .before .before .before .before .before .before .before .before .before .before .before .before .before .before .before .before .before .loop-test .taken), c .before .before .before .before .before .before .before .before .before .before .before .before .before .before .before .before .before .before .before .before .before .before .before .before .before .before .before .loop .inv .1 .1) }
@@ -265,7 +264,7 @@ go-on-spec =
     loop2-holds
     lowest-requires
     message-to-requires
-    others-requires
+    rest-requires
     take-requires
     mul-t71
     element-set-from-r-2

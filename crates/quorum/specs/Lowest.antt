@@ -1,4 +1,4 @@
--- The members of a set, one at a time from the lowest: what is left to send is a set again, without its lowest bit.
+-- The members of a set, one at a time from the lowest: the others are a set again.
 use Prim.Native.Nat.{ℕ, zero, suc, _+_, _-_, _/_, _%_, _^_, _≤_, _<_}
 use mathlib.Core.Path.{_≡_, refl, ap, sym, _∙_}
 use mathlib.Core.List.{List, [], _∷_}
@@ -7,10 +7,10 @@ use native.Mathlib.Nat.{pow-suc, zero-add}
 use lib.Dec.{eqb}
 use lib.ListN.{length}
 use lib.Count.{ones, trailingZeros, under}
-use lib.Pow.{shr-shr, pow-mono}
+use lib.Pow.{shr-shr, pow-mono, pow-pos}
 use Rattle.slots.specs.Bits.{trailing-room}
-use Rattle.quorum.specs.Sets.{hasReplica, keepIf, membersFrom, membersOf}
+use Rattle.quorum.specs.Sets.{setBits, hasReplica, keepIf, membersFrom, membersOf, lowestOf, restOf}
 use Rattle.quorum.specs.Members.{members-count}
 
 -- the members by their bits: n bits of x, the lowest of which is for replica b
 unfoldable bitMembers : ℕ → ℕ → ℕ → List ℕ
@@ -70,7 +70,8 @@ members-bits n x l h =
     bits-are n 0 x ∙ ap (bitMembers n 0) z ∙ sym (ap (λ (k : ℕ). bitMembers k 0 x) e ∙ more-bits n (16 - n) 0 x h)
 
 -- the lowest member and the others
-pub members-next : (n x : ℕ) → n ≤ 16 → x < 2 ^ n → 0 < x → membersOf n x ≡ trailingZeros 16 x ∷ membersOf n (x - 2 ^ trailingZeros 16 x)
+pub members-next : (n x : ℕ) → n ≤ 16 → x < 2 ^ n → 0 < x → membersOf n x ≡ lowestOf x ∷ membersOf n (restOf x)
+unfolding lowestOf restOf setBits
 members-next n x l h p =
     let s : x < 2 ^ 16 = omega (arith, pow-mono {i = n} {j = 16} l) in
     members-bits n x l h ∙ bits-next 16 0 x s p
@@ -82,7 +83,11 @@ members-none n =
     let z : 0 / 2 ^ 0 ≡ 0 = omega arith in
     bits-are n 0 0 ∙ ap (bitMembers n 0) z ∙ none-left n 0
 
-pub ones-rest : (n x : ℕ) → n ≤ 16 → x < 2 ^ n → 0 < x → ones (x - 2 ^ trailingZeros 16 x) + 1 ≡ ones x
+-- the others are fewer
+pub rest-less : (x : ℕ) → 0 < x → restOf x < x
+unfolding restOf
+rest-less x p = omega (arith, pow-pos (lowestOf x))
+
+pub ones-rest : (n x : ℕ) → n ≤ 16 → x < 2 ^ n → 0 < x → ones (restOf x) + 1 ≡ ones x
 ones-rest n x l h p =
-    let y : ℕ = x - 2 ^ trailingZeros 16 x in
-    omega (arith, ap length (members-next n x l h p), members-count n x h, members-count n y (omega arith))
+    omega (arith, ap length (members-next n x l h p), members-count n x h, members-count n (restOf x) (omega (arith, rest-less x p)))

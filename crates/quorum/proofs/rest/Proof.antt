@@ -1,0 +1,26 @@
+-- `quorum::rest` meets its contract: the lowest replica of a set that has some is one of the sixteen, and its bit can be taken away.
+use borrow.Author.Needs.{needs}
+use Rattle.quorum.proofs.Laws.{rest-none, lowest-sixteen, rest-room, rest-is}
+use Rattle.quorum.proofs.rest.Statement.{statement}
+use Rattle.quorum.proofs.rest.Tie as tie
+
+returns : tie.Need-returns
+returns c = rest-none _ (c .if1 .taken)
+
+lowest-requires : tie.Need-lowest-requires
+lowest-requires c κs = tt
+
+cast-result : tie.Need-cast-result
+cast-result c = search needs
+
+shl-result : tie.Need-shl-result
+shl-result c = lowest-sixteen (c .before .before .args .set) _ (search needs) (c .before .if1 .left) (c .lowest .ensures)
+
+sub-result : tie.Need-sub-result
+sub-result c = rest-room (c .before .before .args .set) _ (search needs) (c .before .if1 .left) (c .lowest .ensures)
+
+returns-2 : tie.Need-returns-2
+returns-2 c = rest-is (c .before .before .args .set) _ (search needs) (c .before .if1 .left) (c .lowest .ensures)
+
+pub rest-spec : {M : Type 1} → statement M
+rest-spec = tie.close (tie.spec returns lowest-requires cast-result shl-result sub-result returns-2)
