@@ -15,7 +15,7 @@ use method::Outcome;
 use method::Party;
 use rack::Rack;
 use rack::Sizes;
-use rack::soundness::owed_by_all;
+use rack::owed::owed_by_all;
 use record::Cell;
 use record::Client;
 use record::Replica;

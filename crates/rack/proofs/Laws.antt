@@ -1,23 +1,17 @@
 -- What a test that the code makes says of a definition.
 use Prim.Native.Nat.{ℕ, suc, _+_, _≤_, _<_, min}
-use mathlib.Core.Path.{_≡_, ap, sym, _∙_}
-use mathlib.Core.Bool.{Bool, true, false}
+use mathlib.Core.Path.{_≡_, ap, _∙_}
+use mathlib.Core.Bool.{true}
 use native.Mathlib.Omega.{arith}
 use mathlib.Core.List.{List}
-use lib.Dec.{leb}
 use lib.ListN.{getD, length}
-use borrow.Author.Tests.{lt-leb}
 use Rattle.method.specs.declared.Party.{Party}
-use Rattle.rack.specs.declared.Rack.{Rack}
 use Rattle.rack.specs.Places.{idle}
-use Rattle.rack.specs.Sound.{allBelow, sizesFit, owedBy, owed, recordFits}
+use Rattle.rack.specs.Sound.{sizesFit, owedBy}
 use Rattle.rack.specs.SoundLaws.{sized}
-use Rattle.rack.specs.Owed.{owedIn, owed-in, owed-beyond}
+use Rattle.rack.specs.Owed.{owedIn, owed-beyond}
 
--- ---- loops
-
-pub all-end : (n i : ℕ) (f : ℕ → Bool) → n ≤ i → i ≤ n → allBelow i f ≡ true → true ≡ allBelow n f
-all-end n i f h l e = let q : n ≡ i = omega arith in sym (ap (λ (k : ℕ). allBelow k f) q ∙ e)
+-- ---- the loop over clients
 
 pub owed-next : (i : ℕ) (ps : List Party) → owedIn (i + 1) ps ≡ owedIn i ps + owedBy (getD ps i idle)
 unfolding owedIn
@@ -27,16 +21,6 @@ pub owed-end : (n i clients : ℕ) (ps : List Party) → n ≡ min clients 8 →
 owed-end n i clients ps e l h k =
     let q : i ≡ min clients (length ps) = omega arith in
     ap (λ (j : ℕ). owedIn j ps) q ∙ owed-beyond clients ps
-
--- ---- the record
-
-pub record-over : (r : Rack) → 2048 < r .count → false ≡ recordFits r
-unfolding recordFits
-record-over r h = sym (lt-leb (r .count + owed r) 2048 (omega arith))
-
-pub record-is : (r : Rack) (n : ℕ) → n ≡ owedIn (r .sizes .clients) (r .parties) → leb (r .count + n) 2048 ≡ recordFits r
-unfolding recordFits
-record-is r n e = ap (λ (k : ℕ). leb (r .count + k) 2048) (e ∙ sym (owed-in r))
 
 -- ---- sizes
 

@@ -4,7 +4,6 @@ use mathlib.Core.Path.{_≡_, refl, ap}
 use mathlib.Core.Bool.{Bool, true, false, cond}
 use native.Mathlib.Omega.{arith}
 use lib.ListN.{getD-replicate}
-use borrow.Author.Tests.{lt-ltb}
 use Rattle.rack.specs.declared.Sizes.{Sizes}
 use Rattle.method.specs.declared.Party.{Party}
 use Rattle.rack.specs.declared.Made.{Made}
@@ -12,7 +11,7 @@ use Rattle.stamps.specs.Stamp.{freshPair}
 use Rattle.rack.specs.Places.{slotLimit, empty, idle, partyAt, pairAt, pairPlace, heldAt}
 use Rattle.rack.specs.Sound.{sizesFit, pairFits, heldFits, workFits, owes, owedBy, owedBelow, owed, soundOf}
 use Rattle.rack.specs.Run.{freshRack, madeOf}
-use Rattle.rack.specs.SoundLaws.{Sized, sized, of-sound}
+use Rattle.rack.specs.SoundLaws.{Sized, sized, rank-fits, of-sound}
 
 -- what the maker gives, by its test
 abbrev madeIf : Bool → ℕ → ℕ → ℕ → Made
@@ -29,9 +28,9 @@ module _ (replicas clients cells : ℕ) where
   slot i h = rw (getD-replicate slotLimit i empty empty h)
 
   pair : Sized sizes → (k x : ℕ) → k < replicas → x < cells → pairFits sizes (pairAt (freshRack replicas clients cells) k x) ≡ true
-  unfolding freshRack pairFits
+  unfolding freshRack
   pair n k x hk hx =
-      rw (getD-replicate 240 (pairPlace k x) freshPair freshPair (omega (arith, n .replicas, n .cells))) (lt-ltb 0 clients (n .some-client))
+      rw (getD-replicate 240 (pairPlace k x) freshPair freshPair (omega (arith, n .replicas, n .cells))) (rank-fits sizes freshPair (n .some-client))
 
   party : (i : ℕ) → i < 8 → partyAt (freshRack replicas clients cells) i ≡ idle
   unfolding freshRack

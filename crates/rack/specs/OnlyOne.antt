@@ -62,7 +62,7 @@ pub not-15-too-many : (r : Bool) → r ≡ sizesFit (record { replicas = 15; cli
 unfolding sizesFit
 not-15-too-many r p q = yes-not-no p q
 
--- ---- Rack::sound, part by part: pairs, messages, slots
+-- ---- soundness::sound, part by part: pairs, messages, slots
 
 -- three replicas, two clients, one cell
 abbrev pub sizes : Sizes

@@ -7,7 +7,7 @@ use mathlib.Core.Logic.{_⊎_, inl, inr, ⊎-elim}
 use native.Mathlib.Omega.{arith}
 use lib.Dec.{ltb, eqb}
 use lib.IntN.{ℤ}
-use borrow.Author.Tests.{lt-ltb, ltb-true, eqb-false, not-true}
+use borrow.Author.Tests.{ltb-true, eqb-false, not-true}
 use Rattle.record.specs.declared.Client.{Client}
 use Rattle.record.specs.declared.Cell.{Cell}
 use Rattle.record.specs.declared.Entry.{Entry}
@@ -39,7 +39,7 @@ use Rattle.rack.specs.Places.{isEmpty}
 use Rattle.rack.specs.Sound.{pairFits, bodyFits, messageFits, heldFits, workFits, owes, owedBy}
 use Rattle.rack.specs.Run.{inRack, entriesIn}
 use Rattle.method.specs.Tests.{never, and-left, and-right}
-use Rattle.rack.specs.SoundLaws.{Sized, Named, named, message-fits, ask-open, ask-fits, keep-open, keep-fits}
+use Rattle.rack.specs.SoundLaws.{Sized, rank-fits, Named, named, message-fits, ask-open, ask-fits, keep-open, keep-fits}
 
 -- places of the record that 11 has kept for an operation that starts: its entry and its answer
 abbrev pub keptFor : Note → ℕ
@@ -192,8 +192,7 @@ module _ (z : Sizes) (n : Sized z) (power : ℕ) (party : Party) (pair : Pair) (
         }
 
     written-fits : (v : ℤ) (held : Pair) → pairFits z (written (m .client) v held) ≡ true
-    unfolding pairFits
-    written-fits v held = lt-ltb (m .client .0) (z .clients) (h .client)
+    written-fits v held = rank-fits z (written (m .client) v held) (h .client)
 
     ends-fit : (goal : Goal) (cell : Cell) (held : Pair) → cell .0 < z .cells → pairFits z held ≡ true → 1 ≤ owedBy party
         → OutcomeFits z party (Full m) (phaseEnds goal seen m cell held)

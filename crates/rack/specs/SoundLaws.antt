@@ -3,6 +3,7 @@ use Prim.Native.Nat.{ℕ, _+_, _≤_, _<_}
 use mathlib.Core.Path.{_≡_, ap}
 use mathlib.Core.Bool.{Bool, true, false, not, _&&_, _||_}
 use mathlib.Core.Logic.{_⊎_, inl, inr, ⊎-elim}
+use native.Mathlib.Omega.{arith}
 use lib.Dec.{ltb, leb, eqb}
 use lib.ListN.{set}
 use borrow.Author.Tests.{lt-ltb, ltb-true, le-leb, leb-true, eqb-true, eq-eqb, not-true}
@@ -57,6 +58,12 @@ sizes-fit z s =
     (and-true _ _
     (and-true _ _ (le-leb 1 (z .clients) (s .some-client)) (le-leb (z .clients) 8 (s .clients)))
     (and-true _ _ (le-leb 1 (z .cells) (s .some-cell)) (le-leb (z .cells) 16 (s .cells))))
+
+-- ---- ranks
+
+pub rank-fits : (z : Sizes) (p : Pair) → p .stamp .rank < z .clients → pairFits z p ≡ true
+unfolding pairFits
+rank-fits z p h = lt-ltb (p .stamp .rank) _ (omega (arith, h))
 
 -- ---- messages
 

@@ -1,6 +1,6 @@
 // The engine: a rack of replicas, clients and cells joined by a wire, event by event.
 pub mod maker;
-pub mod soundness;
+pub mod owed;
 
 use method::Held;
 use method::Party;

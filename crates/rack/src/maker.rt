@@ -2,18 +2,40 @@
 ghost use mathlib.Core.Path.{_≡_};
 ghost use Rattle.rack.specs.Places.{idle};
 ghost use Rattle.rack.specs.Run.{freshRack, madeOf};
+ghost use Rattle.rack.specs.Sound.{sizesFit};
 use crate::Line;
 use crate::Made;
 use crate::Rack;
 use crate::Sizes;
 use crate::Slot;
-use crate::soundness::sizes_in;
 use method::Held;
 use method::Party;
 use method::Work;
 use record::Client;
 use record::Entry;
 use stamps::fresh_pair;
+
+// 1 to 15 replicas, 1 to 8 clients and 1 to 16 cells.
+pub fn sizes_in(replicas: u32, clients: u32, cells: u32) -> bool
+    ensures { λ r. ⌜ r ≡ sizesFit (record { replicas = replicas; clients = clients; cells = cells }) ⌝ }
+{
+    if replicas < 1 {
+        return false;
+    }
+    if 15 < replicas {
+        return false;
+    }
+    if clients < 1 {
+        return false;
+    }
+    if 8 < clients {
+        return false;
+    }
+    if cells < 1 {
+        return false;
+    }
+    cells <= 16
+}
 
 // A client that has done nothing yet.
 fn idle() -> Party

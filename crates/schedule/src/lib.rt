@@ -240,7 +240,7 @@ pub fn run(rack: Rack, allowance: usize, events: &[u32]) -> Ran
     if events.len() < 4 {
         return ran(0, 0, rack);
     }
-    if rack.sound() {
+    if soundness::sound(rack) {
         return go_on(rack, start_of(rack), allowance, events);
     }
     ran(0, 2, rack)

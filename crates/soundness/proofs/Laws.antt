@@ -1,0 +1,25 @@
+-- What a test that the code makes says of a definition.
+use Prim.Native.Nat.{ℕ, _+_, _≤_, _<_}
+use mathlib.Core.Path.{_≡_, ap, sym, _∙_}
+use mathlib.Core.Bool.{Bool, true, false}
+use native.Mathlib.Omega.{arith}
+use lib.Dec.{leb}
+use borrow.Author.Tests.{lt-leb}
+use Rattle.rack.specs.declared.Rack.{Rack}
+use Rattle.rack.specs.Sound.{allBelow, owed, recordFits}
+use Rattle.rack.specs.Owed.{owedIn, owed-in}
+
+-- ---- loops
+
+pub all-end : (n i : ℕ) (f : ℕ → Bool) → n ≤ i → i ≤ n → allBelow i f ≡ true → true ≡ allBelow n f
+all-end n i f h l e = let q : n ≡ i = omega arith in sym (ap (λ (k : ℕ). allBelow k f) q ∙ e)
+
+-- ---- the record
+
+pub record-over : (r : Rack) → 2048 < r .count → false ≡ recordFits r
+unfolding recordFits
+record-over r h = sym (lt-leb (r .count + owed r) 2048 (omega arith))
+
+pub record-is : (r : Rack) (n : ℕ) → n ≡ owedIn (r .sizes .clients) (r .parties) → leb (r .count + n) 2048 ≡ recordFits r
+unfolding recordFits
+record-is r n e = ap (λ (k : ℕ). leb (r .count + k) 2048) (e ∙ sym (owed-in r))
