@@ -127,7 +127,7 @@ pub fn pair_up(
         if n == record::ENTRY_LIMIT {
             return Answer::Refused(28, n);
         }
-        match record::entry_at(s, at) {
+        match reader::entry_at(s, at) {
             Found::Fault(k) => {
                 return Answer::Refused(k, n);
             }

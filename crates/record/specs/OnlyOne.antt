@@ -5,21 +5,18 @@ use mathlib.Core.Path.{_≡_, ap, _∙_, sym}
 use native.Mathlib.Omega.{arith}
 use lib.ListN.{length}
 use lib.IntN.{pos}
-use denote.Ref.{now}
 use Rattle.record.specs.declared.Entry.{Entry}
 use Rattle.record.specs.declared.Entry.the-variants.{ReadAsked, WriteAsked, Done}
 use Rattle.record.specs.declared.Found.{Found}
-use Rattle.record.specs.declared.ReadingHead.{ReadingHead}
 use Rattle.record.specs.declared.Standing.{Standing}
 use Rattle.record.specs.declared.Answer.{Answer}
 use Rattle.record.specs.declared.Answer.the-variants.{All, Refused}
 use Rattle.record.specs.Entry.{entryAt}
-use Rattle.record.specs.Head.{underHead, placeAfter, headAfter}
 use Rattle.record.specs.Record.{fresh, openBy, opened, faultAfter, standingAfter, recordOf, surveyOf}
 use Rattle.record.specs.Answers.{foundRefusal, foundNext, foundBytes, refusalIn, entryIn, countIn}
 use Rattle.record.specs.Sheet.{sheetBytes, sheet-reads, client-8, cell-16, done-short}
 
--- ---- entry_at
+-- ---- what `reader::entry_at` answers
 
 -- two answers that refuse alike, hand out the same entry and the same place, and are one answer
 pub record SameFound (r r′ : Found) : Type 0 where
@@ -45,30 +42,6 @@ not-cell-16 r p q = omega (arith, ap foundRefusal (p ∙ cell-16))
 pub not-three-of-done : (r : Found) → r ≡ entryAt (0x03 ∷ 0x00 ∷ 0x07 ∷ []) 0 → foundNext r ≡ 3 → ⊥
 unfolding foundNext
 not-three-of-done r p q = omega (arith, ap foundNext (p ∙ done-short))
-
--- ---- ReadingHead::take
-
--- two outcomes whose answers are one, and which leave the same head
-pub record SameTake (r r′ : Found) (k k′ : ReadingHead) : Type 0 where
-  pub answer : SameFound r r′
-  pub head : k ≡ k′
-
-pub one-take : (h : ReadingHead) (r r′ : Found) (k k′ : ReadingHead) → (r ≡ underHead h) × (k ≡ headAfter h) → (r′ ≡ underHead h) × (k′ ≡ headAfter h) → SameTake r r′ k k′
-one-take h r r′ k k′ p q = record { answer = one-entry (now (h .bytes)) (h .place) r r′ (p .0) (q .0); head = p .1 ∙ sym (q .1) }
-
--- the place of a head that took what was found there
-place-is : (s : List ℕ) (at : ℕ) (f : Found) (h k : ReadingHead) → entryAt s at ≡ f → now (h .bytes) ≡ s → h .place ≡ at → k ≡ headAfter h → k .place ≡ placeAfter f at
-place-is s at f h k e b p q =
-    ap (λ (x : ReadingHead). x .place) q ∙ (ap (λ (l : List ℕ). placeAfter (entryAt l (h .place)) (h .place)) b ∙ (ap (λ (n : ℕ). placeAfter (entryAt s n) n) p ∙ ap (λ (x : Found). placeAfter x at) e))
-
--- a head doesn't stay before the entry that it took, and doesn't pass one that is refused
-pub not-standing : (h k : ReadingHead) → now (h .bytes) ≡ 0x03 ∷ 0x00 ∷ 0x07 ∷ [] → h .place ≡ 0 → k ≡ headAfter h → k .place ≡ 0 → ⊥
-unfolding placeAfter
-not-standing h k b p q z = omega (arith, place-is (0x03 ∷ 0x00 ∷ 0x07 ∷ []) 0 _ h k done-short b p q)
-
-pub not-past-a-fault : (h k : ReadingHead) → now (h .bytes) ≡ 0x00 ∷ 0x08 ∷ 0x00 ∷ [] → h .place ≡ 0 → k ≡ headAfter h → k .place ≡ 2 → ⊥
-unfolding placeAfter
-not-past-a-fault h k b p q z = omega (arith, place-is (0x00 ∷ 0x08 ∷ 0x00 ∷ []) 0 _ h k client-8 b p q)
 
 -- ---- Standing::fresh
 
@@ -110,7 +83,7 @@ pub not-for-others : (r : Standing) → r ≡ standingAfter fresh (WriteAsked (r
 unfolding standingAfter
 not-for-others r p q = omega (arith, ap (λ (x : Standing). openBy x (record { 0 = 4 })) p)
 
--- ---- survey
+-- ---- what `reader::survey` answers
 
 -- two answers that refuse alike, name the same entry, count the same, and are one answer
 pub record SameAnswer (r r′ : Answer) : Type 0 where

@@ -1,4 +1,4 @@
-// A record in memory that is lent: rows of four numbers, and the reader that fills them.
+// A record in memory that is lent: rows of four numbers, and reading bytes into them.
 ghost use mathlib.Core.Path.{_≡_};
 ghost use Prim.Native.Nat.{_+_, _≤_};
 ghost use lib.ListN.{length};
@@ -57,7 +57,7 @@ fn store_rows(s: &[u8], n: usize, rows: &mut [u32])
     let mut at = 0;
     let mut i = 0;
     while i < n {
-        match record::entry_at(s, at) {
+        match reader::entry_at(s, at) {
             Found::Fault(k) => {
                 return;
             }
@@ -74,7 +74,7 @@ fn store_rows(s: &[u8], n: usize, rows: &mut [u32])
 pub fn read_record(s: &[u8], rows: &mut [u32]) -> Answer
     ensures { λ r. ⌜ Leaves (readOutcome (now (s .entry)) (now (rows .entry))) r (now (rows .exit)) ⌝ }
 {
-    match record::survey(s) {
+    match reader::survey(s) {
         Answer::Refused(k, n) => Answer::Refused(k, n),
         Answer::All(n) => {
             if rows.len() / 4 < n {

@@ -1,4 +1,4 @@
-// The writer: a record in rows of lent memory becomes bytes.
+// The writer: bytes from rows in lent memory.
 ghost use mathlib.Core.Path.{_≡_};
 ghost use Prim.Native.Nat.{_+_, _≤_};
 ghost use lib.ListN.{length};

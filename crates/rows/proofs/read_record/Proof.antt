@@ -9,7 +9,7 @@ use Rattle.rows.proofs.read_record.Tie as tie
 use Rattle.rows.proofs.read_record.Reads as reads
 use Rattle.rows.proofs.read_record.Lts as lts
 use Rattle.rows.proofs.store_rows.Reads as store-rows-reads
-use Rattle.record.proofs.survey.Reads as survey-reads
+use Rattle.reader.proofs.survey.Reads as survey-reads
 
 survey-requires : tie.Need-survey-requires
 survey-requires c κs = search needs

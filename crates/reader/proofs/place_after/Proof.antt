@@ -1,8 +1,8 @@
--- `record::place_after` meets its contract. Assumes nothing.
+-- `reader::place_after` meets its contract. Assumes nothing.
 use borrow.Author.Needs.{needs}
-use Rattle.record.specs.Head.{placeAfter}
-use Rattle.record.proofs.place_after.Statement.{statement}
-use Rattle.record.proofs.place_after.Tie as tie
+use Rattle.reader.specs.Head.{placeAfter}
+use Rattle.reader.proofs.place_after.Statement.{statement}
+use Rattle.reader.proofs.place_after.Tie as tie
 
 enum-known-found : tie.Need-enum-known-found
 enum-known-found c = search needs

@@ -1,12 +1,12 @@
--- `record::read_up_to` meets its contract. Assumes nothing.
+-- `reader::read_up_to` meets its contract. Assumes nothing.
 use mathlib.Core.Path.{sym, _∙_}
 use borrow.Author.Tests.{lt-ltb, le-ltb}
 use Rattle.record.specs.Entry.{upTo}
 use borrow.Author.Needs.{needs}
-use Rattle.record.proofs.read_up_to.Statement.{statement}
-use Rattle.record.proofs.read_up_to.Tie as tie
-use Rattle.record.proofs.read_up_to.Reads as reads
-use Rattle.record.proofs.read_up_to.Lts as lts
+use Rattle.reader.proofs.read_up_to.Statement.{statement}
+use Rattle.reader.proofs.read_up_to.Tie as tie
+use Rattle.reader.proofs.read_up_to.Reads as reads
+use Rattle.reader.proofs.read_up_to.Lts as lts
 use Rattle.number.proofs.read_number.Reads as read-number-reads
 
 read-number-requires : tie.Need-read-number-requires

@@ -1,4 +1,4 @@
--- `record::ReadingHead::take` meets its contract: a walk of its MIR, by hand. The borrow is opened, the slice and the place that the head holds are handed to `read_entry`, what was found and the place to `place_after`, what that returns is stored as the new place, and the borrow is closed at the head with it.
+-- `reader::ReadingHead::take` meets its contract: a walk of its MIR, by hand. The borrow is opened, the slice and the place that the head holds are handed to `read_entry`, what was found and the place to `place_after`, what that returns is stored as the new place, and the borrow is closed at the head with it.
 -- All that the proof knows of the two is that each meets its contract. What the slice owns is had twice, and one copy goes to `read_entry`; numbers and what was found own only facts, which are made anew.
 use mathlib.Core.Path.{_≡_, refl, ap, _∙_}
 use Prim.Native.Nat.{ℕ, _<_, _^_}
@@ -44,25 +44,25 @@ use denote.Triple.Entry.{Vals, onEntry}
 use denote.Triple.Spec.{Meets, tripleOf}
 use denote.Triple.Table.{entered, cited}
 use denote.Triple.Walked.{says, Stays, stay-ref, walkOf, goes-ref, Walks, ends-at, walked, walk-meets}
-use Rattle.record.specs.Head.{underHead, placeAfter}
+use Rattle.reader.specs.Head.{underHead, placeAfter}
 use Rattle.record.specs.declared.Found.{Found}
-use Rattle.record.specs.declared.ReadingHead.{ReadingHead}
+use Rattle.reader.specs.declared.ReadingHead.{ReadingHead}
 use Rattle.record.proofs.Found as F
 use Rattle.record.proofs.Found.Laws as F′
-use Rattle.record.proofs.ReadingHead as T
-use Rattle.record.proofs.ReadingHead.Laws as T′
-use Rattle.record.proofs.read_entry as read-entry
-use Rattle.record.proofs.read_entry.Symbol as read-entry-def
-use Rattle.record.proofs.read_entry.Symbol.{name as #read-entry}
-use Rattle.record.proofs.read_entry.Met as read-entry-thm
-use Rattle.record.proofs.place_after as place-after
-use Rattle.record.proofs.place_after.Symbol as place-after-def
-use Rattle.record.proofs.place_after.Symbol.{name as #place-after}
-use Rattle.record.proofs.place_after.Met as place-after-thm
-use Rattle.record.proofs.ReadingHead.take.Key.{name as #take}
-use Rattle.record.proofs.ReadingHead.take as take
-use Rattle.record.proofs.ReadingHead.take.Statement as stated
-use Rattle.record.proofs.ReadingHead.take.Code as code
+use Rattle.reader.proofs.ReadingHead as T
+use Rattle.reader.proofs.ReadingHead.Laws as T′
+use Rattle.reader.proofs.read_entry as read-entry
+use Rattle.reader.proofs.read_entry.Symbol as read-entry-def
+use Rattle.reader.proofs.read_entry.Symbol.{name as #read-entry}
+use Rattle.reader.proofs.read_entry.Met as read-entry-thm
+use Rattle.reader.proofs.place_after as place-after
+use Rattle.reader.proofs.place_after.Symbol as place-after-def
+use Rattle.reader.proofs.place_after.Symbol.{name as #place-after}
+use Rattle.reader.proofs.place_after.Met as place-after-thm
+use Rattle.reader.proofs.ReadingHead.take.Key.{name as #take}
+use Rattle.reader.proofs.ReadingHead.take as take
+use Rattle.reader.proofs.ReadingHead.take.Statement as stated
+use Rattle.reader.proofs.ReadingHead.take.Code as code
 
 -- 'a, and the head's type at it
 abbrev α : Lft → NamedLft
@@ -214,5 +214,5 @@ take-spec 𝓤 H 𝓜 𝓖 𝓡 =
     entered 𝓤 H (tripleOf 𝓤 H (𝓖 .A) take.signature (take.spec 𝓤 H (𝓖 .A) (𝓜 .mem) (𝓡 .run)))
     (tables 𝓤 H 𝓜 𝓡 code.env .C) (tables 𝓤 H 𝓜 𝓡 code.env .Λ) #take code.function (code.unfolded 𝓤 H 𝓜 𝓡)
     (take-meets 𝓤 H (𝓖 .A) (givenOf 𝓤 H 𝓜 𝓖) (𝓜 .mem) (𝓡 .run) (tablesOf 𝓤 H 𝓜 (tables 𝓤 H 𝓜 𝓡 code.env))
-    (cited 𝓤 H (ReadEntry 𝓤 H (𝓖 .A) (𝓜 .mem) (𝓡 .run)) 𝓜 𝓡 code.env #read-entry read-entry-def.routine code.calls-record·read-entry (read-entry-thm.met 𝓤 H 𝓜 𝓖 𝓡))
-    (cited 𝓤 H (PlaceAfter 𝓤 H (𝓖 .A) (𝓜 .mem) (𝓡 .run)) 𝓜 𝓡 code.env #place-after place-after-def.routine code.calls-record·place-after (place-after-thm.met 𝓤 H 𝓜 𝓖 𝓡)))
+    (cited 𝓤 H (ReadEntry 𝓤 H (𝓖 .A) (𝓜 .mem) (𝓡 .run)) 𝓜 𝓡 code.env #read-entry read-entry-def.routine code.calls-reader·read-entry (read-entry-thm.met 𝓤 H 𝓜 𝓖 𝓡))
+    (cited 𝓤 H (PlaceAfter 𝓤 H (𝓖 .A) (𝓜 .mem) (𝓡 .run)) 𝓜 𝓡 code.env #place-after place-after-def.routine code.calls-reader·place-after (place-after-thm.met 𝓤 H 𝓜 𝓖 𝓡)))

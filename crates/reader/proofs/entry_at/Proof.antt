@@ -1,4 +1,4 @@
--- `record::entry_at` meets its contract: a walk of its MIR, by hand. A head is made in a local of the slice and the place, and lent to `take`, for a lifetime that is made for the call within the slice's own (`borrow.Within.Token`). Then the local is taken back and let go.
+-- `reader::entry_at` meets its contract: a walk of its MIR, by hand. A head is made in a local of the slice and the place, and lent to `take`, for a lifetime that is made for the call within the slice's own (`borrow.Within.Token`). Then the local is taken back and let go.
 -- All that the proof knows of `take` is that it meets its contract. What the slice owns is had twice: once for the exit, and once inside the head. The slice's token is halved for the call, which asks one of each lifetime, and joined after it.
 use mathlib.Core.Path.{_≡_, refl}
 use Prim.Native.Nat.{ℕ, _<_, _^_}
@@ -47,22 +47,22 @@ use denote.Triple.Spec.{Meets, tripleOf}
 use denote.Triple.Table.{entered, cited}
 use denote.Triple.Walked.{says, Stays, stay-none, stay-none-slice, walkOf, goes-none, goes-none-slice, Walks, ends-at, walked, walk-meets}
 use denote.Exit.{yes}
 use Rattle.record.specs.Entry.{entryAt}
-use Rattle.record.specs.Head.{headAfter}
+use Rattle.reader.specs.Head.{headAfter}
 use Rattle.record.specs.declared.Found.{Found}
-use Rattle.record.specs.declared.ReadingHead.{ReadingHead}
+use Rattle.reader.specs.declared.ReadingHead.{ReadingHead}
 use Rattle.record.proofs.Found as F
 use Rattle.record.proofs.Found.Laws as F′
-use Rattle.record.proofs.ReadingHead as T
-use Rattle.record.proofs.ReadingHead.Laws as T′
-use Rattle.record.proofs.ReadingHead.take as take
-use Rattle.record.proofs.ReadingHead.take.Symbol as take-def
-use Rattle.record.proofs.ReadingHead.take.Symbol.{name as #take}
-use Rattle.record.proofs.ReadingHead.take.Met as take-thm
-use Rattle.record.proofs.entry_at.Key.{name as #entry-at}
-use Rattle.record.proofs.entry_at as entry-at
-use Rattle.record.proofs.entry_at.Statement as stated
-use Rattle.record.proofs.entry_at.Code as code
+use Rattle.reader.proofs.ReadingHead as T
+use Rattle.reader.proofs.ReadingHead.Laws as T′
+use Rattle.reader.proofs.ReadingHead.take as take
+use Rattle.reader.proofs.ReadingHead.take.Symbol as take-def
+use Rattle.reader.proofs.ReadingHead.take.Symbol.{name as #take}
+use Rattle.reader.proofs.ReadingHead.take.Met as take-thm
+use Rattle.reader.proofs.entry_at.Key.{name as #entry-at}
+use Rattle.reader.proofs.entry_at as entry-at
+use Rattle.reader.proofs.entry_at.Statement as stated
+use Rattle.reader.proofs.entry_at.Code as code
 
 abbrev stayed : Stays (entry-at.ended .signature .params) (entry-at.ended .kept)
 stayed = (stay-none-slice (0 ∷ []) tt (plain (λ _. u8)) yes, (stay-none (λ _. usize) yes, tt))
@@ -191,4 +191,4 @@ entry-at-spec 𝓤 H 𝓜 𝓖 𝓡 =
     entered 𝓤 H (tripleOf 𝓤 H (𝓖 .A) entry-at.signature (entry-at.spec 𝓤 H (𝓖 .A) (𝓜 .mem) (𝓡 .run)))
     (tables 𝓤 H 𝓜 𝓡 code.env .C) (tables 𝓤 H 𝓜 𝓡 code.env .Λ) #entry-at code.function (code.unfolded 𝓤 H 𝓜 𝓡)
     (entry-at-meets 𝓤 H (𝓖 .A) (givenOf 𝓤 H 𝓜 𝓖) (𝓜 .mem) (𝓡 .run) (tablesOf 𝓤 H 𝓜 (tables 𝓤 H 𝓜 𝓡 code.env))
-    (cited 𝓤 H (Take 𝓤 H (𝓖 .A) (𝓜 .mem) (𝓡 .run)) 𝓜 𝓡 code.env #take take-def.routine code.calls-record·ReadingHead·take (take-thm.met 𝓤 H 𝓜 𝓖 𝓡)))
+    (cited 𝓤 H (Take 𝓤 H (𝓖 .A) (𝓜 .mem) (𝓡 .run)) 𝓜 𝓡 code.env #take take-def.routine code.calls-reader·ReadingHead·take (take-thm.met 𝓤 H 𝓜 𝓖 𝓡)))

@@ -1,18 +1,18 @@
--- `record::read_fields` meets its contract. Assumes nothing.
+-- `reader::read_fields` meets its contract. Assumes nothing.
 use mathlib.Core.Path.{sym, _∙_}
 use native.Mathlib.Omega.{arith}
 use borrow.Author.Tests.{eq-eqb, ne-eqb}
 use Rattle.record.specs.Entry.{andThen, fieldsAt}
 use Rattle.record.specs.EntryTrip.{passed}
 use Rattle.number.specs.ValueLaws.{signed-of-bits}
 use borrow.Author.Needs.{needs}
-use Rattle.record.proofs.read_fields.Statement.{statement}
-use Rattle.record.proofs.read_fields.Tie as tie
-use Rattle.record.proofs.read_fields.Reads as reads
-use Rattle.record.proofs.read_fields.Lts as lts
+use Rattle.reader.proofs.read_fields.Statement.{statement}
+use Rattle.reader.proofs.read_fields.Tie as tie
+use Rattle.reader.proofs.read_fields.Reads as reads
+use Rattle.reader.proofs.read_fields.Lts as lts
 use Rattle.number.proofs.read_number.Reads as read-number-reads
 use Rattle.number.proofs.signed.Reads as signed-reads
-use Rattle.record.proofs.read_up_to.Reads as read-up-to-reads
+use Rattle.reader.proofs.read_up_to.Reads as read-up-to-reads
 
 returns : tie.Need-returns
 unfolding fieldsAt andThen

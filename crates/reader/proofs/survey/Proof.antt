@@ -1,4 +1,4 @@
--- `record::survey` meets its contract. The invariant: what is held from here on, with the entries counted, is what is held in all.
+-- `reader::survey` meets its contract. The invariant: what is held from here on, with the entries counted, is what is held in all.
 -- The measure is how many entries may follow. Assumes nothing.
 use Prim.Native.Nat.{_-_}
 use mathlib.Core.Path.{refl, sym, _∙_}
@@ -6,11 +6,11 @@ use lib.ListN.{length}
 use lib.Dec.{ltb}
 use borrow.Author.Needs.{needs}
 use borrow.Author.Tests.{lt-ltb, le-ltb}
 use Rattle.record.specs.Entry.{entryAt}
 use Rattle.record.specs.Record.{recordOf}
 use Rattle.record.specs.Steps.{Counting, survey-tally, counts-end, counts-full, counts-unread, counts-misplaced, counts-on}
-use Rattle.record.proofs.survey.Statement.{statement}
-use Rattle.record.proofs.survey.Tie as tie
+use Rattle.reader.proofs.survey.Statement.{statement}
+use Rattle.reader.proofs.survey.Tie as tie
 
 abbrev Inv-loop : tie.InvT-loop
 Inv-loop s st₀ at₀ n₀ st at n = Counting (λ i. ltb i (length s)) (entryAt s) (λ e. 1) (recordOf s) at n n st

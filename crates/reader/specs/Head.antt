@@ -1,10 +1,10 @@
 -- The reading head, which holds the record's bytes and its place, and takes one entry at a time. The paper: "The record and its bytes".
 use Prim.Native.Nat.{ℕ}
 use denote.Ref.{now}
 use Rattle.record.specs.declared.Found.{Found}
 use Rattle.record.specs.declared.Found.the-variants.{At, Fault}
-use Rattle.record.specs.declared.ReadingHead.{ReadingHead}
+use Rattle.reader.specs.declared.ReadingHead.{ReadingHead}
 use Rattle.record.specs.Entry.{entryAt}
 
 -- what stands at the head's place
 abbrev pub underHead : ReadingHead → Found

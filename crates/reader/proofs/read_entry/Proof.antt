@@ -1,15 +1,15 @@
--- `record::read_entry` meets its contract. Assumes nothing.
+-- `reader::read_entry` meets its contract. Assumes nothing.
 use mathlib.Core.Path.{sym, _∙_}
 use native.Mathlib.Omega.{arith}
 use Rattle.record.specs.Entry.{andThen, entryAt}
 use Rattle.record.specs.EntryTrip.{passed}
 use borrow.Author.Needs.{needs}
-use Rattle.record.proofs.read_entry.Statement.{statement}
-use Rattle.record.proofs.read_entry.Tie as tie
-use Rattle.record.proofs.read_entry.Reads as reads
-use Rattle.record.proofs.read_entry.Lts as lts
-use Rattle.record.proofs.read_fields.Reads as read-fields-reads
-use Rattle.record.proofs.read_up_to.Reads as read-up-to-reads
+use Rattle.reader.proofs.read_entry.Statement.{statement}
+use Rattle.reader.proofs.read_entry.Tie as tie
+use Rattle.reader.proofs.read_entry.Reads as reads
+use Rattle.reader.proofs.read_entry.Lts as lts
+use Rattle.reader.proofs.read_fields.Reads as read-fields-reads
+use Rattle.reader.proofs.read_up_to.Reads as read-up-to-reads
 
 read-up-to-requires : tie.Need-read-up-to-requires
 read-up-to-requires c κs = search needs
