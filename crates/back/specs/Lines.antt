@@ -6,11 +6,11 @@ use native.Mathlib.Omega.{arith}
 use lib.ListN.{getD, set, take, drop, length}
 use lib.Seq.{length-take-le, take-all, take-suc, take-suc-set, sets, length-sets, take-at}
 use Rattle.record.specs.declared.Entry.{Entry}
-use Rattle.rows.specs.Row.{rowOf}
+use Rattle.rows.specs.Row.{rowOf, storedAt}
 use Rattle.record.specs.declared.Answer.{Answer}
 use Rattle.record.specs.Record.{allOf}
 use Rattle.rows.specs.Rows.{rowsOf, writeOutcome, Leaves}
-use Rattle.rows.specs.RowLaws.{rows-length}
+use Rattle.rows.specs.RowLaws.{rows-length, stored-in}
 use Rattle.number.specs.Wrote.{sets-append, sets-front}
 use Rattle.rack.specs.declared.Line.{Line}
 use Rattle.rack.specs.declared.Rack.{Rack}
@@ -104,9 +104,9 @@ pub stored-long : {d : List ℕ} {lines : List Line} {n : ℕ} {now : List ℕ} 
 stored-long {d} {lines} {n} {now} {i} w = ap length (w .rows) ∙ length-sets d 0 (rowsOf (entriesOf i lines))
 
 -- one line more
-pub stored-next : {d : List ℕ} {lines : List Line} {n : ℕ} {now : List ℕ} {i : ℕ} → Stored d lines n now i → (next row : List ℕ) (l : Line) → i < n → n ≤ length lines
-    → row ≡ rowOf (getD lines i l .entry) → next ≡ sets now (4 * i) row → Stored d lines n next (i + 1)
-stored-next {d} {lines} {n} {now} {i} w next row l h k p q =
+pub stored-next : {d : List ℕ} {lines : List Line} {n : ℕ} {now : List ℕ} {i : ℕ} → Stored d lines n now i → (next : List ℕ) (l : Line) → i < n → n ≤ length lines
+    → 4 * n ≤ length d → next ≡ storedAt now (4 * i) (getD lines i l .entry) → Stored d lines n next (i + 1)
+stored-next {d} {lines} {n} {now} {i} w next l h k room q =
     let es : List Entry = entriesOf i lines in
     let e : Entry = getD lines i l .entry in
     let long : 4 * i ≡ 0 + length (rowsOf es) = omega (arith, rows-length es, n-long i lines (omega arith)) in
@@ -115,7 +115,7 @@ stored-next {d} {lines} {n} {now} {i} w next row l h k p q =
     record {
       few = omega arith;
       rows = q
-          ∙ ap (λ (x : List ℕ). sets now (4 * i) x) p
+          ∙ stored-in now (4 * i) e (omega (arith, stored-long w))
           ∙ ap (λ (x : List ℕ). sets x (4 * i) (rowOf e)) (w .rows)
           ∙ ap (λ (m : ℕ). sets (sets d 0 (rowsOf es)) m (rowOf e)) long
           ∙ sets-append d 0 (rowsOf es) (rowOf e)

@@ -1,6 +1,6 @@
 // What a rack writes down reads back, and the judge takes it: theorems on the engine's record in specs/, and the call that writes it.
 ghost use mathlib.Core.Path.{_≡_};
-ghost use Prim.Native.Nat.{_+_, _*_, _≤_};
+ghost use Prim.Native.Nat.{_*_, _≤_};
 ghost use lib.ListN.{length};
 ghost use lib.Seq.{sets};
 ghost use Rattle.rows.specs.Rows.{rowsOf, writeOutcome, Leaves};
@@ -11,17 +11,6 @@ use rack::Rack;
 use record::Answer;
 use record::ENTRY_LIMIT;
 
-// Four numbers at a place.
-fn put_row(rows: &mut [u32], at: usize, row: [u32; 4])
-    requires { ⌜ at + 4 ≤ length (now rows) ⌝ }
-    ensures { λ r. ⌜ now (rows .exit) ≡ sets (now (rows .entry)) at row ⌝ }
-{
-    rows[at] = row[0];
-    rows[at + 1] = row[1];
-    rows[at + 2] = row[2];
-    rows[at + 3] = row[3];
-}
-
 // The rows of the first n lines.
 fn store_lines(lines: [Line; 2048], n: usize, rows: &mut [u32])
     requires { ⌜ (n ≤ 2048) × (4 * n ≤ length (now rows)) ⌝ }
@@ -31,7 +20,7 @@ fn store_lines(lines: [Line; 2048], n: usize, rows: &mut [u32])
     while i < n {
         let line = lines[i];
         let entry = line.entry;
-        put_row(rows, 4 * i, rows::row_of(entry));
+        rows::store_row(rows, 4 * i, entry);
         i += 1;
     }
 }

@@ -2,6 +2,7 @@
 use Prim.Native.Nat.{ℕ}
 use mathlib.Core.List.{List, [], _∷_}
 use mathlib.Core.Path.{_≡_, ap, _∙_, sym}
+use mathlib.Core.Bool.{Bool, true, false}
 use native.Mathlib.Omega.{arith}
 use lib.IntN.{ℤ, pos}
 use lib.ListN.{drop, getD}
@@ -18,7 +19,7 @@ use Rattle.record.specs.Record.{Held, allOf}
 use Rattle.record.specs.Answers.{countIn}
 use Rattle.record.specs.Sheet.{sheetBytes, sheet-reads, second-faulty}
 use Rattle.record.specs.OnlyOne.{SameAnswer, same-answer}
-use Rattle.rows.specs.Row.{rowOf}
+use Rattle.rows.specs.Row.{rowOf, roomAt, storedAt}
 use Rattle.rows.specs.Rows.{Outcome, Leaves, stored, readInto, writeInto, readOutcome, writeOutcome}
 use Rattle.rows.specs.Sheet.{sheet-rows, row-client-8, one-row}
 
@@ -33,6 +34,24 @@ row-not-done client v r p q = omega (arith, ap (λ (l : List ℕ). getD l 0 0) p
 pub row-not-plain : (client : Client) (cell : Cell) (r : List ℕ) → r ≡ rowOf (WriteAsked client cell (pos 5)) → getD r 3 0 ≡ 5 → ⊥
 unfolding rowOf alternatingOf
 row-not-plain client cell r p q = omega (arith, ap (λ (l : List ℕ). getD l 3 0) p)
+
+-- an entry stored: whether it has room, and the lent rows
+pub record OneStored (r r′ : Bool) (d d′ : List ℕ) : Type 0 where
+  pub answer : r ≡ r′
+  pub lent : d ≡ d′
+
+pub one-stored : (rows : List ℕ) (at : ℕ) (e : Entry) (r r′ : Bool) (d d′ : List ℕ) → r ≡ roomAt rows at → d ≡ storedAt rows at e → r′ ≡ roomAt rows at
+    → d′ ≡ storedAt rows at e → OneStored r r′ d d′
+one-stored rows at e r r′ d d′ p q p′ q′ = record { answer = p ∙ sym p′; lent = q ∙ sym q′ }
+
+-- the last place has room, and the one after it hasn't
+pub stored-not-full : (a b c d : ℕ) (r : Bool) → r ≡ roomAt (a ∷ b ∷ c ∷ d ∷ []) 0 → r ≡ false → ⊥
+unfolding roomAt
+stored-not-full a b c d r p q = let z : _≡_ {A = ℕ} 0 1 = cc in omega arith
+
+pub stored-not-past : (a b c d : ℕ) (r : Bool) → r ≡ roomAt (a ∷ b ∷ c ∷ d ∷ []) 1 → r ≡ true → ⊥
+unfolding roomAt
+stored-not-past a b c d r p q = let z : _≡_ {A = ℕ} 0 1 = cc in omega arith
 
 -- two outcomes whose answers are one, and which leave the same in the lent memory
 pub record SameOutcome (r r′ : Answer) (d d′ : List ℕ) : Type 0 where

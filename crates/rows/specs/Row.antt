@@ -1,9 +1,10 @@
 -- An entry in memory: a row of four numbers. The paper: "The record and its bytes".
 use Prim.Native.Nat.{ℕ, _+_}
 use mathlib.Core.List.{List, [], _∷_}
-use mathlib.Core.Bool.{cond, _||_, _&&_}
-use lib.ListN.{getD}
-use lib.Dec.{ltb, eqb}
+use mathlib.Core.Bool.{Bool, cond, _||_, _&&_}
+use lib.ListN.{getD, length}
+use lib.Seq.{sets}
+use lib.Dec.{ltb, leb, eqb}
 use Rattle.number.specs.Value.{alternatingOf, signedOf}
 use Rattle.record.specs.declared.Entry.{Entry}
 use Rattle.record.specs.declared.Entry.the-variants.{ReadAsked, WriteAsked, Told, Done}
@@ -16,6 +17,14 @@ rowOf (ReadAsked client cell) = 0 ∷ client .0 ∷ cell .0 ∷ 0 ∷ []
 rowOf (WriteAsked client cell v) = 1 ∷ client .0 ∷ cell .0 ∷ alternatingOf v ∷ []
 rowOf (Told client v) = 2 ∷ client .0 ∷ 0 ∷ alternatingOf v ∷ []
 rowOf (Done client) = 3 ∷ client .0 ∷ 0 ∷ 0 ∷ []
+
+-- whether lent rows have room for one at place at
+unfoldable pub roomAt : List ℕ → ℕ → Bool
+roomAt rows at = leb (at + 4) (length rows)
+
+-- lent rows after an entry is stored at place at: its row stands there if it has room, else nothing changes
+unfoldable pub storedAt : List ℕ → ℕ → Entry → List ℕ
+storedAt rows at e = cond (roomAt rows at) (sets rows at (rowOf e)) rows
 
 -- the entry of a row's four numbers; a field its kind hasn't got is no part of it
 unfoldable pub entryOf : ℕ → ℕ → ℕ → ℕ → Entry

@@ -1,7 +1,8 @@
--- What a row gives, test by test in the order of the code; how many numbers rows have, and how many bytes their entries.
+-- What a row gives, test by test in the order of the code; when a row is stored; how many numbers rows have, and how many bytes their entries.
 use Prim.Native.Nat.{ℕ, _+_, _*_, _/_, _≤_, _<_}
 use mathlib.Core.List.{List, [], _∷_}
 use lib.ListN.{length, length-append, getD}
+use lib.Seq.{sets}
 use mathlib.Core.Path.{_≡_, refl, ap}
 use mathlib.Core.Bool.{Bool, true, false, cond, _||_, _&&_}
 use native.Mathlib.Omega.{arith}
@@ -15,7 +16,7 @@ use Rattle.record.specs.Entry.{entryBytes}
 use Rattle.record.specs.Record.{Held, entries, fault, allOf}
 use Rattle.record.specs.Steps.{total, tally}
 use Rattle.record.specs.declared.Answer.the-variants.{All}
-use Rattle.rows.specs.Row.{rowOf, entryOf, rowFound, rowAt}
+use Rattle.rows.specs.Row.{rowOf, roomAt, storedAt, entryOf, rowFound, rowAt}
 use Rattle.rows.specs.Rows.{rowsOf, measureOf}
 
 module _ (kind client cell value next : ℕ) where
@@ -72,12 +73,23 @@ row-length (WriteAsked client cell v) = refl
 row-length (Told client v) = refl
 row-length (Done client) = refl
 
-pub row-whole : (e : Entry) (r : List ℕ) → r ≡ rowOf e → getD r 0 0 ∷ getD r 1 0 ∷ getD r 2 0 ∷ getD r 3 0 ∷ [] ≡ rowOf e
-unfolding rowOf
-row-whole (ReadAsked client cell) r p = rw p
-row-whole (WriteAsked client cell v) r p = rw p
-row-whole (Told client v) r p = rw p
-row-whole (Done client) r p = rw p
+-- where there is room the row is stored
+pub room-in : (d : List ℕ) (at : ℕ) → at + 4 ≤ length d → roomAt d at ≡ true
+unfolding roomAt
+room-in d at h = le-leb (at + 4) (length d) h
+
+pub stored-in : (d : List ℕ) (at : ℕ) (e : Entry) → at + 4 ≤ length d → storedAt d at e ≡ sets d at (rowOf e)
+unfolding storedAt
+stored-in d at e h = rw (room-in d at h)
+
+-- where there isn't nothing changes
+pub room-out : (d : List ℕ) (at : ℕ) → length d < at + 4 → roomAt d at ≡ false
+unfolding roomAt
+room-out d at h = lt-leb (at + 4) (length d) h
+
+pub stored-out : (d : List ℕ) (at : ℕ) (e : Entry) → length d < at + 4 → storedAt d at e ≡ d
+unfolding storedAt
+stored-out d at e h = rw (room-out d at h)
 
 -- and there are four to an entry
 pub rows-length : (es : List Entry) → length (rowsOf es) ≡ 4 * length es

@@ -3,28 +3,27 @@ ghost use mathlib.Core.Path.{_≡_};
 ghost use Prim.Native.Nat.{_+_, _≤_};
 ghost use lib.ListN.{length};
 ghost use lib.Seq.{sets};
-ghost use mathlib.Core.List.{[], _∷_};
 ghost use Rattle.record.specs.Record.{recordOf};
-ghost use Rattle.rows.specs.Row.{rowOf};
+ghost use Rattle.rows.specs.Row.{rowOf, roomAt, storedAt};
 ghost use Rattle.rows.specs.Rows.{readOutcome, Leaves};
 ghost use Rattle.rows.specs.Storing.{Storable};
 use record::Answer;
 use record::Entry;
 use record::Found;
 
-// Four numbers, one after another.
-fn put_row(rows: &mut [u32], at: usize, kind: u32, client: u32, cell: u32, value: u32)
+// Four numbers at a place.
+fn put_row(rows: &mut [u32], at: usize, row: [u32; 4])
     requires { ⌜ at + 4 ≤ length (now rows) ⌝ }
-    ensures { λ r. ⌜ now (rows .exit) ≡ sets (now (rows .entry)) at (kind ∷ client ∷ cell ∷ value ∷ []) ⌝ }
+    ensures { λ r. ⌜ now (rows .exit) ≡ sets (now (rows .entry)) at row ⌝ }
 {
-    rows[at] = kind;
-    rows[at + 1] = client;
-    rows[at + 2] = cell;
-    rows[at + 3] = value;
+    rows[at] = row[0];
+    rows[at + 1] = row[1];
+    rows[at + 2] = row[2];
+    rows[at + 3] = row[3];
 }
 
 // An entry as a row of four numbers; a field that its kind hasn't got stands as 0.
-pub fn row_of(e: Entry) -> [u32; 4]
+fn row_of(e: Entry) -> [u32; 4]
     ensures { λ r. ⌜ r ≡ rowOf e ⌝ }
 {
     match e {
@@ -40,13 +39,18 @@ pub fn row_of(e: Entry) -> [u32; 4]
     }
 }
 
-// An entry's row at a place.
-fn store_row(rows: &mut [u32], at: usize, e: Entry)
-    requires { ⌜ at + 4 ≤ length (now rows) ⌝ }
-    ensures { λ r. ⌜ now (rows .exit) ≡ sets (now (rows .entry)) at (rowOf e) ⌝ }
+// An entry's row at a place of lent rows, where it has room; the answer is whether it has.
+pub fn store_row(rows: &mut [u32], at: usize, e: Entry) -> bool
+    ensures { λ r. ⌜ (r ≡ roomAt (now (rows .entry)) at) × (now (rows .exit) ≡ storedAt (now (rows .entry)) at e) ⌝ }
 {
-    let row = row_of(e);
-    put_row(rows, at, row[0], row[1], row[2], row[3])
+    if rows.len() < 4 {
+        return false;
+    }
+    if rows.len() - 4 < at {
+        return false;
+    }
+    put_row(rows, at, row_of(e));
+    true
 }
 
 // Stores the n entries that the bytes hold.

@@ -630,8 +630,7 @@ fn put_entry(words: &mut [u32], at: usize, entry: Entry)
     requires { ⌜ at + 4 ≤ length (now words) ⌝ }
     ensures { λ r. ⌜ now (words .exit) ≡ sets (now (words .entry)) at (rowOf entry) ⌝ }
 {
-    let row = rows::row_of(entry);
-    put(words, at, &row)
+    rows::store_row(words, at, entry);
 }
 
 // ---- writing each part

@@ -1,6 +1,5 @@
 -- `back::store_lines` meets its contract. The invariant: the rows of the first i lines are stored. Assumes nothing.
 use Prim.Native.Nat.{_-_}
-use native.Mathlib.Omega.{arith}
 use borrow.Author.Needs.{needs}
 use Rattle.back.specs.Lines.{Stored, stored-none, stored-long, stored-next, stored-all}
 use Rattle.back.proofs.store_lines.Statement.{statement}
@@ -21,14 +20,11 @@ mul-line c = search needs
 array-copy-out-line : tie.Need-array-copy-out-line Inv-loop μ-loop
 array-copy-out-line c = search needs
 
-mul-put-row : tie.Need-mul-put-row Inv-loop μ-loop
-mul-put-row c = search needs
+mul-store-row : tie.Need-mul-store-row Inv-loop μ-loop
+mul-store-row c = search needs
 
-row-of-requires : tie.Need-row-of-requires Inv-loop μ-loop
-row-of-requires c κs = search needs
-
-put-row-requires : tie.Need-put-row-requires Inv-loop μ-loop
-put-row-requires c κs = omega (arith, stored-long (c .before .before .before .before .loop .inv), c .before .before .before .loop-test .taken)
+store-row-requires : tie.Need-store-row-requires Inv-loop μ-loop
+store-row-requires c κs = tt
 
 add-i : tie.Need-add-i Inv-loop μ-loop
 add-i c = search needs
@@ -38,8 +34,8 @@ loop-less c = search needs
 
 loop-again : tie.Need-loop-again Inv-loop μ-loop
 loop-again c =
-    stored-next (c .before .before .before .before .before .before .before .loop .inv) _ _ _ (c .before .before .before .before .before .before .loop-test .taken) (search needs)
-    (c .before .before .before .row-of .ensures) (c .before .before .put-row .ensures)
+    stored-next (c .before .before .before .before .before .before .loop .inv) _ _ (c .before .before .before .before .before .loop-test .taken) (search needs)
+    (c .before .before .before .before .before .before .before .before .pre .1) (c .before .before .store-row .ensures .1)
 
 same-length : tie.Need-same-length Inv-loop μ-loop
 same-length c = stored-long (c .before .loop .inv)
@@ -56,9 +52,8 @@ store-lines-spec =
     loop-holds
     mul-line
     array-copy-out-line
-    mul-put-row
-    row-of-requires
-    put-row-requires
+    mul-store-row
+    store-row-requires
     add-i
     loop-less
     loop-again

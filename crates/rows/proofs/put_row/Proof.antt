@@ -1,19 +1,22 @@
 -- `rows::put_row` meets its contract. Assumes nothing.
 use native.Mathlib.Omega.{arith}
 use lib.ListN.{length-set}
-use Prim.Native.Nat.{_+_, suc}
-use mathlib.Core.Path.{_≡_}
+use Rattle.rows.proofs.Laws.{put-four}
 use borrow.Author.Needs.{needs}
 use Rattle.rows.proofs.put_row.Statement.{statement}
 use Rattle.rows.proofs.put_row.Tie as tie
-use Rattle.rows.proofs.put_row.Reads as reads
-use Rattle.rows.proofs.put_row.Lts as lts
+
+array-read-rows : tie.Need-array-read-rows
+array-read-rows c = search needs
 
 mul-rows : tie.Need-mul-rows
 mul-rows c = search needs
 
 slice-write-rows : tie.Need-slice-write-rows
 slice-write-rows c = search needs
+
+array-read-rows-2 : tie.Need-array-read-rows-2
+array-read-rows-2 c = search needs
 
 add-rows : tie.Need-add-rows
 add-rows c = search needs
@@ -24,6 +27,9 @@ mul-rows-2 c = search needs
 slice-write-rows-2 : tie.Need-slice-write-rows-2
 slice-write-rows-2 c = simp length-set (omega arith)
 
+array-read-rows-3 : tie.Need-array-read-rows-3
+array-read-rows-3 c = search needs
+
 add-rows-2 : tie.Need-add-rows-2
 add-rows-2 c = search needs
 
@@ -32,6 +38,9 @@ mul-rows-3 c = search needs
 
 slice-write-rows-3 : tie.Need-slice-write-rows-3
 slice-write-rows-3 c = simp length-set (omega arith)
+
+array-read-rows-4 : tie.Need-array-read-rows-4
+array-read-rows-4 c = search needs
 
 add-rows-3 : tie.Need-add-rows-3
 add-rows-3 c = search needs
@@ -46,24 +55,24 @@ same-length : tie.Need-same-length
 same-length c = search needs
 
 returns : tie.Need-returns
-returns c = let at = c .args .at in
-    let one : at + 1 ≡ suc at = omega arith in
-    let two : at + 2 ≡ suc (suc at) = omega arith in
-    let three : at + 3 ≡ suc (suc (suc at)) = omega arith in
-    rw (one, two, three)
+returns c = put-four (c .args .rows .now) (c .args .at) (c .args .t3) (search needs)
 
 pub put-row-spec : {M : Type 1} → statement M
 put-row-spec =
     tie.close
     (tie.spec
+    array-read-rows
     mul-rows
     slice-write-rows
+    array-read-rows-2
     add-rows
     mul-rows-2
     slice-write-rows-2
+    array-read-rows-3
     add-rows-2
     mul-rows-3
     slice-write-rows-3
+    array-read-rows-4
     add-rows-3
     mul-rows-4
     slice-write-rows-4

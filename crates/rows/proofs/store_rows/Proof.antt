@@ -4,6 +4,7 @@ use Prim.Native.Nat.{_-_}
 use mathlib.Core.Path.{sym, _∙_}
 use native.Mathlib.Omega.{arith}
 use borrow.Author.Needs.{needs}
+use Rattle.rows.specs.RowLaws.{stored-in}
 use Rattle.rows.proofs.Filling.{Filling, fills, fills-room, fills-entry, fills-on, fills-long, fills-end}
 use Rattle.rows.proofs.store_rows.Statement.{statement}
 use Rattle.rows.proofs.store_rows.Tie as tie
@@ -36,7 +37,7 @@ mul-store-row : tie.Need-mul-store-row Inv-loop μ-loop
 mul-store-row c = let h = fills-room _ _ _ _ _ _ (c .before .before .before .before .before .before .loop .inv) (c .before .before .before .before .before .loop-test .taken) in omega arith
 
 store-row-requires : tie.Need-store-row-requires Inv-loop μ-loop
-store-row-requires c κs = fills-room _ _ _ _ _ _ (c .before .before .before .before .before .before .loop .inv) (c .before .before .before .before .before .loop-test .taken)
+store-row-requires c κs = tt
 
 add-i : tie.Need-add-i Inv-loop μ-loop
 add-i c = search needs
@@ -45,7 +46,7 @@ loop-less : tie.Need-loop-less Inv-loop μ-loop
 loop-less c = search needs
 
 loop-again : tie.Need-loop-again Inv-loop μ-loop
-loop-again c = fills-on _ _ _ _ _ _ (c .before .before .before .before .before .before .before .before .before .loop .inv) _ _ _ (c .before .before .before .before .before .before .before .before .loop-test .taken) (sym (c .before .before .before .before .before .before .before .entry-at .ensures) ∙ c .before .before .before .before .before .e .given .1) (c .before .before .store-row .ensures)
+loop-again c = fills-on _ _ _ _ _ _ (c .before .before .before .before .before .before .before .before .before .loop .inv) _ _ _ (c .before .before .before .before .before .before .before .before .loop-test .taken) (sym (c .before .before .before .before .before .before .before .entry-at .ensures) ∙ c .before .before .before .before .before .e .given .1) (c .before .before .store-row .ensures .1 ∙ stored-in _ _ _ (fills-room _ _ _ _ _ _ (c .before .before .before .before .before .before .before .before .before .loop .inv) (c .before .before .before .before .before .before .before .before .loop-test .taken)))
 
 same-length-2 : tie.Need-same-length-2 Inv-loop μ-loop
 same-length-2 c = fills-long _ _ _ _ _ _ (c .before .loop .inv)

@@ -1,25 +1,18 @@
 -- `words::put_entry` meets its contract.
-use mathlib.Core.Path.{ap, _∙_}
-use lib.Seq.{sets}
+use mathlib.Core.Path.{_∙_}
 use borrow.Author.Needs.{needs}
+use Rattle.rows.specs.RowLaws.{stored-in}
 use Rattle.words.proofs.put_entry.Statement.{statement}
 use Rattle.words.proofs.put_entry.Tie as tie
 
-row-of-requires : tie.Need-row-of-requires
-row-of-requires c κs = search needs
-
-slice-aggregate-put : tie.Need-slice-aggregate-put
-slice-aggregate-put c = search needs
-
-put-requires : tie.Need-put-requires
-put-requires c κs = search needs
+store-row-requires : tie.Need-store-row-requires
+store-row-requires c κs = tt
 
 same-length : tie.Need-same-length
 same-length c = search needs
 
 returns : tie.Need-returns
-returns c = c .before .before .put .ensures ∙ ap (sets _ _) (c .before .before .before .before .before .row-of .ensures)
+returns c = c .before .before .store-row .ensures .1 ∙ stored-in _ _ _ (c .before .before .before .before .before .pre)
 
 pub put-entry-spec : {M : Type 1} → statement M
-put-entry-spec =
-    tie.close (tie.spec row-of-requires slice-aggregate-put put-requires same-length returns)
+put-entry-spec = tie.close (tie.spec store-row-requires same-length returns)

@@ -1,4 +1,4 @@
--- What the call's functions know of rows.
+-- Laws of single rows.
 use Prim.Native.Nat.{ℕ, suc, _+_}
 use mathlib.Core.Path.{_≡_}
 use mathlib.Core.List.{List, [], _∷_}
