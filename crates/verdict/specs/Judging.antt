@@ -16,13 +16,13 @@ use Rattle.law.specs.Operations.{numbered, legal-cell}
 use Rattle.law.specs.Whole.{part-lawful, record-locality-16}
 use Rattle.pairs.specs.Pairs.{PairsUp}
 use Rattle.chains.specs.Chains.{Again}
+use Rattle.clusters.specs.Arrays.{Arrays, arrays, Fit, Fresh, Tally, Swept, LowestIn}
+use Rattle.clusters.specs.Bridge.{Holds, fits}
+use Rattle.clusters.specs.CellLaw.{unmarked-lawful, marked-unlawful}
+use Rattle.clusters.specs.Shown.{all-shown}
 use Rattle.verdict.specs.declared.Verdict.{Verdict}
 use Rattle.verdict.specs.declared.Verdict.the-variants.{Lawful as saysLawful, Unlawful as saysUnlawful, Refused as saysRefused}
 use Rattle.verdict.specs.Verdict.{distinct, takenFor, Judges}
-use Rattle.verdict.specs.Arrays.{Arrays, arrays, Fit, Fresh, Tally, Swept, LowestIn}
-use Rattle.verdict.specs.Bridge.{Holds, fits}
-use Rattle.verdict.specs.CellLaw.{unmarked-lawful, marked-unlawful}
-use Rattle.verdict.specs.Shown.{all-shown}
 use Rattle.verdict.specs.Repeats.{distinct-none, distinct-named}
 use Rattle.record.specs.Trip.{reading-legal}
 

@@ -15,9 +15,9 @@ use Rattle.record.specs.declared.Entry.{Entry}
 use Rattle.record.specs.declared.Entry.the-variants.{ReadAsked, WriteAsked, Told, Done}
 use Rattle.record.specs.Record.{Held, entries, fault}
 use Rattle.chains.specs.Chains.{Asks, Again}
+use Rattle.clusters.specs.Arrays.{Arrays, cellAt, valueAt, Fresh}
+use Rattle.clusters.specs.Shown.{Shows, AllShow}
 use Rattle.verdict.specs.Verdict.{asksFor, askedAmong, repeats, distinctFrom, distinct}
-use Rattle.verdict.specs.Arrays.{Arrays, cellAt, valueAt, Fresh}
-use Rattle.verdict.specs.Shown.{Shows, AllShow}
 
 -- entry p asks to write v to cell c
 abbrev AsksAt : Arrays → ℕ → ℕ → ℤ → Type 0

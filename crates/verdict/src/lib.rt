@@ -4,9 +4,9 @@ ghost use mathlib.Core.Path.{_≡_};
 ghost use Prim.Native.Nat.{_+_, _<_, _≤_, min, max};
 ghost use lib.ListN.{length, getD, set};
 ghost use mathlib.Core.Bool.{cond};
-ghost use lib.Dec.{eqb, ltb};
+ghost use lib.Dec.{eqb};
+ghost use Rattle.clusters.specs.Arrays.{arrays, Fit, Ready, Taking, Tally, OwnNumbers, stopOf, markOf, Scattering, Scattered, Sweepable, Visited, Swept, LowestIn};
 ghost use Rattle.verdict.specs.Verdict.{takenFor, Judges};
-ghost use Rattle.verdict.specs.Arrays.{arrays, Fit, Ready, Taking, Tally, OwnNumbers, Scattering, Scattered, Sweepable, Visited, Swept, LowestIn};
 ghost use Rattle.verdict.specs.Judging.{Settles, JudgesIn};
 use chains::Linked;
 use chains::Write;
@@ -53,7 +53,7 @@ fn greater(x: u16, y: u16) -> u16
 
 // A cell's mark: 1 once a cluster's least stop comes before the cell's reach.
 fn mark_of(least: u16, reach: u16, mark: u8) -> u8
-    ensures { λ r. ⌜ r ≡ cond (ltb least reach) 1 mark ⌝ }
+    ensures { λ r. ⌜ r ≡ markOf least reach mark ⌝ }
 {
     if least < reach { 1 } else { mark }
 }
@@ -72,7 +72,7 @@ fn own_numbers(n: usize, most: &mut [u16; 2048])
 
 // The stop of a write that ends at p; far where the entry ends no write. A select, so that no branch depends on the kind.
 fn stop_of(kind: u8, p: u16) -> u16
-    ensures { λ r. ⌜ r ≡ cond (eqb kind 3) p 65535 ⌝ }
+    ensures { λ r. ⌜ r ≡ stopOf kind p ⌝ }
 {
     if kind == 3 { p } else { 65535 }
 }
@@ -80,7 +80,7 @@ fn stop_of(kind: u8, p: u16) -> u16
 // A write's end is an end of its own cluster; no other entry lowers anything here.
 fn take_done(kinds: &[u8; 2048], starts: &[u16; 2048], least: &mut [u16; 2048], p: usize)
     requires { ⌜ (p < 2048) × (getD (now starts) p 0 < 2048) ⌝ }
-    ensures { λ r. ⌜ now (least .exit) ≡ set (now (least .entry)) (getD (now (starts .entry)) p 0) (min (getD (now (least .entry)) (getD (now (starts .entry)) p 0) 0) (cond (eqb (getD (now (kinds .entry)) p 0) 3) p 65535)) ⌝ }
+    ensures { λ r. ⌜ now (least .exit) ≡ set (now (least .entry)) (getD (now (starts .entry)) p 0) (min (getD (now (least .entry)) (getD (now (starts .entry)) p 0) 0) (stopOf (getD (now (kinds .entry)) p 0) p)) ⌝ }
 {
     let w = wide(starts[p]);
     let old = least[w];
@@ -284,7 +284,7 @@ fn meet(
     w: usize,
 )
     requires { ⌜ (w < 2048) × (getD (now cells) w 0 < 16) ⌝ }
-    ensures { λ r. ⌜ (now (reach .exit) ≡ set (now (reach .entry)) (getD (now (cells .entry)) w 0) (max (getD (now (reach .entry)) (getD (now (cells .entry)) w 0) 0) (getD (now (most .entry)) w 0))) × (now (bad .exit) ≡ set (now (bad .entry)) (getD (now (cells .entry)) w 0) (cond (ltb (getD (now (least .entry)) w 0) (getD (now (reach .entry)) (getD (now (cells .entry)) w 0) 0)) 1 (getD (now (bad .entry)) (getD (now (cells .entry)) w 0) 0))) ⌝ }
+    ensures { λ r. ⌜ (now (reach .exit) ≡ set (now (reach .entry)) (getD (now (cells .entry)) w 0) (max (getD (now (reach .entry)) (getD (now (cells .entry)) w 0) 0) (getD (now (most .entry)) w 0))) × (now (bad .exit) ≡ set (now (bad .entry)) (getD (now (cells .entry)) w 0) (markOf (getD (now (least .entry)) w 0) (getD (now (reach .entry)) (getD (now (cells .entry)) w 0) 0) (getD (now (bad .entry)) (getD (now (cells .entry)) w 0) 0))) ⌝ }
 {
     let c = wide_cell(cells[w]);
     let r = reach[c];

@@ -23,8 +23,8 @@ use Rattle.law.specs.Steps.{Step, stepOf, noteStep, note-step, ending, ending-k
 use Rattle.law.specs.Steps.Step.{asks, ends}
 use Rattle.law.specs.Operations.{Tied, tied-next, tied-fresh}
 use Rattle.chains.specs.Chains.{Asks}
-use Rattle.verdict.specs.Arrays.{Arrays, kindAt, cellAt, valueAt}
-use Rattle.verdict.specs.Bridge.{Holds, write-entry, cell-start, value-start, entry-write}
+use Rattle.clusters.specs.Arrays.{Arrays, kindAt, cellAt, valueAt}
+use Rattle.clusters.specs.Bridge.{Holds, write-entry, cell-start, value-start, entry-write}
 
 -- what the arrays show of entry p
 abbrev pub Shows : Arrays → ℕ → Entry → Type 0

@@ -1,18 +1,16 @@
--- What the code's stores make of the sums, entry by entry.
+-- What the judge's stores make of the sums, entry by entry.
 use Prim.Native.Nat.{ℕ, _+_, _≤_, _<_, min, max}
 use mathlib.Core.Path.{_≡_, refl, sym, ap, _∙_, subst}
 use mathlib.Core.Logic.{_≢_, inl, inr, ⊎-elim}
-use mathlib.Core.Bool.{Bool, cond}
 use mathlib.Core.List.{List}
 use native.Mathlib.Omega.{arith}
 use native.Mathlib.Decide.{decLt, ℕ-discrete}
-use lib.Dec.{eqb}
 use lib.ListN.{length, getD, set, length-set, replicate, length-replicate, getD-replicate, List·getD-eq-default}
 use lib.Seq.{getD-set-same, getD-set-other}
-use borrow.Author.Tests.{eq-eqb, ne-eqb}
-use Rattle.verdict.specs.Arrays.{Arrays, kindAt, cellAt, valueAt, startAt, IsWrite, Asked, Sources, Tally, Ready, Taking, OwnNumbers, far, Scattering}
-use Rattle.verdict.specs.Passing.{greatest-start, greatest-skip, greatest-step, least-start, least-same, least-skip, least-step, sources-start, sources-skip, sources-found, sources-mark}
-use Rattle.verdict.specs.Placing.{one-asks, placed}
+use borrow.Author.Tests.{ne-eqb}
+use Rattle.clusters.specs.Arrays.{Arrays, kindAt, cellAt, valueAt, startAt, IsWrite, Asked, Sources, Tally, Ready, Taking, OwnNumbers, far, stopOf, Scattering}
+use Rattle.clusters.specs.Passing.{greatest-start, greatest-skip, greatest-step, least-start, least-same, least-skip, least-step, sources-start, sources-skip, sources-found, sources-mark}
+use Rattle.clusters.specs.Placing.{one-asks, placed}
 
 -- ---- own numbers
 
@@ -54,6 +52,16 @@ tally-none-yet a n most few o =
     }
 
 -- ---- one entry
+
+-- a write that ends at p stops there
+stop-done : (kind p : ℕ) → kind ≡ 3 → stopOf kind p ≡ p
+unfolding stopOf
+stop-done kind p k = rw k
+
+-- an entry that ends no write stops none
+stop-none : (kind p : ℕ) → kind ≢ 3 → stopOf kind p ≡ far
+unfolding stopOf
+stop-none kind p k = rw (ne-eqb kind 3 k)
 
 module _ (a : Arrays) (n p : ℕ) (head next least most zero bad : List ℕ) (t : Taking a n p head next least most zero bad) where
   -- of the places below n
@@ -194,10 +202,10 @@ module _ (a : Arrays) (n p : ℕ) (head next least most zero bad : List ℕ) (t 
 
 -- the lowering of a start's least stop: by p where p ends a write, by nothing elsewhere
 module _ (a : Arrays) (n p : ℕ) (head next least most zero bad : List ℕ) (t : Taking a n p head next least most zero bad) (least′ : List ℕ)
-    (e : least′ ≡ set least (startAt a p) (min (getD least (startAt a p) 0) (cond (eqb (kindAt a p) 3) p far))) where
+    (e : least′ ≡ set least (startAt a p) (min (getD least (startAt a p) 0) (stopOf (kindAt a p) p))) where
   unlowered : kindAt a p ≢ 3 → Taking a n p head next least′ most zero bad
   unlowered k = tally-pass a n p head next least most zero bad t least′ k
-      (e ∙ ap (λ (b : Bool). set least (startAt a p) (min (getD least (startAt a p) 0) (cond b p far))) (ne-eqb (kindAt a p) 3 k))
+      (e ∙ ap (λ (s : ℕ). set least (startAt a p) (min (getD least (startAt a p) 0) s)) (stop-none (kindAt a p) p k))
 
   pub lowered-read : kindAt a p ≡ 2 → Taking a n p head next least′ most zero bad
   lowered-read k = unlowered (λ j. omega arith)
@@ -205,7 +213,7 @@ module _ (a : Arrays) (n p : ℕ) (head next least most zero bad : List ℕ) (t 
   pub lowered-other : kindAt a p ≢ 2 → Tally a n (p + 1) least′ most zero bad
   lowered-other k = elim (ℕ-discrete (kindAt a p) 3) [
     | yes j ↦ tally-done a n p head next least most zero bad t least′ j
-        (e ∙ ap (λ (b : Bool). set least (startAt a p) (min (getD least (startAt a p) 0) (cond b p far))) (eq-eqb (kindAt a p) 3 j))
+        (e ∙ ap (λ (s : ℕ). set least (startAt a p) (min (getD least (startAt a p) 0) s)) (stop-done (kindAt a p) p j))
     | no j ↦ tally-skip a n p head next least′ most zero bad (unlowered j) k j
   ]
 

@@ -17,8 +17,8 @@ use Rattle.law.specs.Lists.{ofCell-in, ofCell-of}
 use Rattle.law.specs.Cluster.{Distinct, Member, Sourced}
 use Rattle.law.specs.ClusterTheorem.{rule}
 use Rattle.law.specs.Checked.{Write, ZeroRead, Sums, Checked, checked}
-use Rattle.verdict.specs.Arrays.{Arrays, cellAt, valueAt, startAt, Fresh, IsWrite, Asked, Joins, ReadOf, ZeroOf, Unsourced, far, Tally, WriteOf, Crossed, Swept}
-use Rattle.verdict.specs.Bridge.{Holds, EndedBy, alternating-one, alternating-zero, write-entry, cell-start, stop-below, kind-stop, read-stop, cell-stop, value-stop, start-stop, start-number, start-before, same-number, entry-write, entry-read, entry-done, asked-by, asked-value, asked-cell, distinct-cell, once-cell}
+use Rattle.clusters.specs.Arrays.{Arrays, cellAt, valueAt, startAt, Fresh, IsWrite, Asked, Joins, ReadOf, ZeroOf, Unsourced, far, Tally, WriteOf, Crossed, Swept}
+use Rattle.clusters.specs.Bridge.{Holds, EndedBy, alternating-one, alternating-zero, write-entry, cell-start, stop-below, kind-stop, read-stop, cell-stop, value-stop, start-stop, start-number, start-before, same-number, entry-write, entry-read, entry-done, asked-by, asked-value, asked-cell, distinct-cell, once-cell}
 
 module _ (a : Arrays) (n : ℕ) (ops : List Op) (h : Holds a n ops) (fresh : Fresh a n) (least most zero was : List ℕ) (t : Tally a n n least most zero was)
     (c : ℕ) (small : c < 16) where

@@ -3,14 +3,22 @@ use Prim.Native.Nat.{ℕ, _+_, _≤_, _<_, max}
 use mathlib.Core.Path.{_≡_, refl, sym, ap, _∙_, subst}
 use mathlib.Core.Logic.{_≢_, _⊎_, inl, inr, ⊎-elim}
 use mathlib.Core.List.{List}
-use mathlib.Core.Bool.{Bool, cond}
 use native.Mathlib.Omega.{arith}
 use native.Mathlib.Decide.{decLt, ℕ-discrete}
-use lib.Dec.{ltb}
 use lib.ListN.{length, getD, set, length-set}
 use lib.Seq.{getD-set-same, getD-set-other}
 use borrow.Author.Tests.{lt-ltb, le-ltb}
-use Rattle.verdict.specs.Arrays.{Arrays, cellAt, Fit, IsWrite, far, placeOf, Placed, Scattered, WriteOf, Crossed, Sweeping, Swept}
+use Rattle.clusters.specs.Arrays.{Arrays, cellAt, Fit, IsWrite, placeOf, Placed, Scattered, WriteOf, Crossed, markOf, Sweeping, Swept}
+
+-- a cluster that ends before the reach marks its cell
+mark-early : (least reach mark : ℕ) → least < reach → markOf least reach mark ≡ 1
+unfolding markOf
+mark-early least reach mark l = rw (lt-ltb least reach l)
+
+-- one that doesn't leaves the mark as it was
+mark-late : (least reach mark : ℕ) → reach ≤ least → markOf least reach mark ≡ mark
+unfolding markOf
+mark-late least reach mark l = rw (le-ltb least reach l)
 
 module _ (a : Arrays) (n : ℕ) (least most zero was : List ℕ) where
   pub sweep-start : length zero ≡ 16 → length was ≡ 16 → Sweeping a n least most zero was 0 zero was
@@ -51,7 +59,7 @@ module _ (a : Arrays) (n : ℕ) (least most zero was : List ℕ) where
 
     -- the cluster of w stands at p
     module _ (w c r g v : ℕ) (inside : p < n) (is : w ≡ getD at p 0) (write : w < n) (cell : c ≡ cellAt a w) (reached : r ≡ getD reach c 0)
-        (raised : g ≡ max r (getD most w 0)) (marked : v ≡ cond (ltb (getD least w 0) r) 1 (getD bad c 0)) where
+        (raised : g ≡ max r (getD most w 0)) (marked : v ≡ markOf (getD least w 0) r (getD bad c 0)) where
       stands : IsWrite a n w × (placeOf least most w ≡ p)
       stands = ⊎-elim (λ e. absurd (omega (arith, fit .few))) (λ (i, l, e). (subst (IsWrite a n) (sym is) i, ap (placeOf least most) is ∙ e))
           (s .only p (omega (arith, fit .few)))
@@ -73,10 +81,10 @@ module _ (a : Arrays) (n : ℕ) (least most zero was : List ℕ) where
       ]
 
       mark-yes : getD least w 0 < r → v ≡ 1
-      mark-yes l = marked ∙ ap (λ (b : Bool). cond b 1 (getD bad c 0)) (lt-ltb (getD least w 0) r l)
+      mark-yes l = marked ∙ mark-early (getD least w 0) r (getD bad c 0) l
 
       mark-no : r ≤ getD least w 0 → v ≡ getD bad c 0
-      mark-no l = marked ∙ ap (λ (b : Bool). cond b 1 (getD bad c 0)) (le-ltb (getD least w 0) r l)
+      mark-no l = marked ∙ mark-late (getD least w 0) r (getD bad c 0) l
 
       -- what is not marked: w ends after the reach, and the cell was not marked
       fine : v ≡ 0 → (r ≤ getD least w 0) × (getD bad c 0 ≡ 0)

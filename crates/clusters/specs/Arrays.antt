@@ -3,7 +3,9 @@
 use Prim.Native.Nat.{ℕ, _+_, _≤_, _<_, min}
 use mathlib.Core.Path.{_≡_}
 use mathlib.Core.Logic.{_≢_, _⊎_}
+use mathlib.Core.Bool.{cond}
 use mathlib.Core.List.{List}
+use lib.Dec.{eqb, ltb}
 use lib.ListN.{length, getD}
 use Rattle.chains.specs.Chains.{Asks, NoneAgain}
 use Rattle.chains.specs.Table.{Chained}
@@ -103,6 +105,10 @@ pub record Sources (a : Arrays) (n p : ℕ) (bad : List ℕ) : Type 0 where
 abbrev pub far : ℕ
 far = 65535
 
+-- the stop of a write that ends at p; far where the entry ends no write
+unfoldable pub stopOf : ℕ → ℕ → ℕ
+stopOf kind p = cond (eqb kind 3) p far
+
 -- the pass over the ends, up to place p
 pub record Tally (a : Arrays) (n p : ℕ) (least most zero bad : List ℕ) : Type 0 where
   pub least-long : length least ≡ 2048
@@ -164,6 +170,10 @@ abbrev pub Crossed : Arrays → ℕ → List ℕ → List ℕ → List ℕ → �
 Crossed a n least most zero c =
     ((w : ℕ) × WriteOf a n c w × (getD least w 0 < getD zero c 0))
     ⊎ ((w x : ℕ) × WriteOf a n c w × WriteOf a n c x × (w ≢ x) × (getD least w 0 < getD most x 0) × (getD least x 0 < getD most w 0))
+
+-- a cell's mark: 1 once a cluster's least stop comes before the cell's reach
+unfoldable pub markOf : ℕ → ℕ → ℕ → ℕ
+markOf least reach mark = cond (ltb least reach) 1 mark
 
 -- the sweep up to place p: how far each cell reaches, and which are bad beside those that were (was)
 pub record Sweeping (a : Arrays) (n : ℕ) (least most zero was : List ℕ) (p : ℕ) (reach bad : List ℕ) : Type 0 where

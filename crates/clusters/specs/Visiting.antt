@@ -1,16 +1,16 @@
--- What the code's stores make of the sweep, place by place.
+-- What the judge's stores make of the sweep, place by place.
 use Prim.Native.Nat.{ℕ, _+_, _≤_, _<_, max}
 use mathlib.Core.Path.{_≡_, refl, ap, _∙_, subst}
 use mathlib.Core.Bool.{Bool, cond}
 use mathlib.Core.List.{List}
 use native.Mathlib.Omega.{arith}
 use native.Mathlib.Decide.{ℕ-discrete}
-use lib.Dec.{ltb, eqb}
+use lib.Dec.{eqb}
 use lib.ListN.{getD, set, replicate, length-replicate, getD-replicate}
 use borrow.Author.Tests.{eq-eqb, ne-eqb}
-use Rattle.verdict.specs.Arrays.{Arrays, kindAt, cellAt, placeOf, Scattering, Scattered, Sweepable, Visited}
-use Rattle.verdict.specs.Placing.{scatter-start, scatter-skip, scatter-beyond, scatter-step}
-use Rattle.verdict.specs.Sweeping.{sweep-none, sweep-step}
+use Rattle.clusters.specs.Arrays.{Arrays, kindAt, cellAt, placeOf, Scattering, Scattered, markOf, Sweepable, Visited}
+use Rattle.clusters.specs.Placing.{scatter-start, scatter-skip, scatter-beyond, scatter-step}
+use Rattle.clusters.specs.Sweeping.{sweep-none, sweep-step}
 
 -- ---- scattering
 
@@ -46,8 +46,8 @@ module _ (a : Arrays) (n : ℕ) (least most at : List ℕ) (s : Sweepable a n le
 
   module _ (w : ℕ) (is : w ≡ getD at p 0) (b : w < n) where
     pub visit-on : (reach′ bad′ : List ℕ) → p < n → reach′ ≡ set reach (cellAt a w) (max (getD reach (cellAt a w) 0) (getD most w 0))
-        → bad′ ≡ set bad (cellAt a w) (cond (ltb (getD least w 0) (getD reach (cellAt a w) 0)) 1 (getD bad (cellAt a w) 0))
+        → bad′ ≡ set bad (cellAt a w) (markOf (getD least w 0) (getD reach (cellAt a w) 0) (getD bad (cellAt a w) 0))
         → Visited a n least most p reach bad reach′ bad′
     visit-on reach′ bad′ l e f zero was t = rw (e, f) (sweep-step a n least most zero was at (s .fit) (s .scattered) p reach bad t
-        w (cellAt a w) (getD reach (cellAt a w) 0) (max (getD reach (cellAt a w) 0) (getD most w 0)) (cond (ltb (getD least w 0) (getD reach (cellAt a w) 0)) 1 (getD bad (cellAt a w) 0))
+        w (cellAt a w) (getD reach (cellAt a w) 0) (max (getD reach (cellAt a w) 0) (getD most w 0)) (markOf (getD least w 0) (getD reach (cellAt a w) 0) (getD bad (cellAt a w) 0))
         l is b refl refl refl refl)

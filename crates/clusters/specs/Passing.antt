@@ -7,7 +7,7 @@ use native.Mathlib.Omega.{arith}
 use native.Mathlib.Decide.{decLt, ℕ-discrete}
 use lib.ListN.{length, getD, set}
 use lib.Seq.{getD-set-same, getD-set-other}
-use Rattle.verdict.specs.Arrays.{Arrays, cellAt, TellsAt, Source, Unsourced, Greatest, Least, Sources}
+use Rattle.clusters.specs.Arrays.{Arrays, cellAt, TellsAt, Source, Unsourced, Greatest, Least, Sources}
 
 -- ---- the greatest by key
 

@@ -16,8 +16,8 @@ use Rattle.law.specs.Lists.{pairs-imp, single, ofCell-of, ofCell-pairs}
 use Rattle.law.specs.Cluster.{Distinct}
 use Rattle.law.specs.Operations.{Numbered}
 use Rattle.pairs.specs.Pairs.{Paired}
-use Rattle.verdict.specs.Arrays.{Arrays, kindAt, cellAt, valueAt, startAt, Fit, Fresh, IsWrite, Asked}
-use Rattle.verdict.specs.Placing.{one-asks}
+use Rattle.clusters.specs.Arrays.{Arrays, kindAt, cellAt, valueAt, startAt, Fit, Fresh, IsWrite, Asked}
+use Rattle.clusters.specs.Placing.{one-asks}
 
 -- each value has a number of its own
 pub alternating-one : (u v : ℤ) → alternatingOf u ≡ alternatingOf v → u ≡ v

@@ -7,7 +7,7 @@ use native.Mathlib.Omega.{arith}
 use native.Mathlib.Decide.{decLt, ℕ-discrete}
 use lib.ListN.{length, getD, set, length-set}
 use lib.Seq.{getD-set-same, getD-set-other}
-use Rattle.verdict.specs.Arrays.{Arrays, kindAt, startAt, Fit, Fresh, IsWrite, Asked, ReadOf, Joins, Greatest, Least, far, placeOf, Placed, Scattered}
+use Rattle.clusters.specs.Arrays.{Arrays, kindAt, startAt, Fit, Fresh, IsWrite, Asked, ReadOf, Joins, Greatest, Least, far, placeOf, Placed, Scattered}
 
 module _ (a : Arrays) (n : ℕ) (fresh : Fresh a n) where
   -- an earlier write of the same is none
