@@ -61,22 +61,22 @@ bits-next (suc n) b x h l = go (x % 2) refl (bits-next n (b + 1) (x / 2))
         rw (e, s, t, u)
     go (suc (suc d)) e ih = absurd (omega arith)
 
--- ---- the same of the members of a set among n replicas, with 16 bits
+-- ---- the same of the members of a set among n replicas, with as many bits as a set has
 
-members-bits : (n x : ℕ) → n ≤ 16 → x < 2 ^ n → membersOf n x ≡ bitMembers 16 0 x
-members-bits n x l h =
+members-bits : (m n x : ℕ) → n ≤ m → x < 2 ^ n → membersOf n x ≡ bitMembers m 0 x
+members-bits m n x l h =
     let z : x / 2 ^ 0 ≡ x = omega arith in
-    let e : 16 ≡ n + (16 - n) = omega arith in
-    bits-are n 0 x ∙ ap (bitMembers n 0) z ∙ sym (ap (λ (k : ℕ). bitMembers k 0 x) e ∙ more-bits n (16 - n) 0 x h)
+    let e : m ≡ n + (m - n) = omega arith in
+    bits-are n 0 x ∙ ap (bitMembers n 0) z ∙ sym (ap (λ (k : ℕ). bitMembers k 0 x) e ∙ more-bits n (m - n) 0 x h)
 
 -- the lowest member and the others
-pub members-next : (n x : ℕ) → n ≤ 16 → x < 2 ^ n → 0 < x → membersOf n x ≡ lowestOf x ∷ membersOf n (restOf x)
-unfolding lowestOf restOf setBits
+pub members-next : (n x : ℕ) → n ≤ setBits → x < 2 ^ n → 0 < x → membersOf n x ≡ lowestOf x ∷ membersOf n (restOf x)
+unfolding lowestOf restOf
 members-next n x l h p =
-    let s : x < 2 ^ 16 = omega (arith, pow-mono {i = n} {j = 16} l) in
-    members-bits n x l h ∙ bits-next 16 0 x s p
-    ∙ ap (λ (k : ℕ). k ∷ bitMembers 16 0 (x - 2 ^ trailingZeros 16 x)) (zero-add (trailingZeros 16 x))
-    ∙ ap (λ (ks : List ℕ). trailingZeros 16 x ∷ ks) (sym (members-bits n (x - 2 ^ trailingZeros 16 x) l (omega arith)))
+    let s : x < 2 ^ setBits = omega (arith, pow-mono {i = n} {j = setBits} l) in
+    members-bits setBits n x l h ∙ bits-next setBits 0 x s p
+    ∙ ap (λ (k : ℕ). k ∷ bitMembers setBits 0 (x - 2 ^ trailingZeros setBits x)) (zero-add (trailingZeros setBits x))
+    ∙ ap (λ (ks : List ℕ). trailingZeros setBits x ∷ ks) (sym (members-bits setBits n (x - 2 ^ trailingZeros setBits x) l (omega arith)))
 
 pub members-none : (n : ℕ) → membersOf n 0 ≡ []
 members-none n =
@@ -88,6 +88,6 @@ pub rest-less : (x : ℕ) → 0 < x → restOf x < x
 unfolding restOf
 rest-less x p = omega (arith, pow-pos (lowestOf x))
 
-pub ones-rest : (n x : ℕ) → n ≤ 16 → x < 2 ^ n → 0 < x → ones (restOf x) + 1 ≡ ones x
+pub ones-rest : (n x : ℕ) → n ≤ setBits → x < 2 ^ n → 0 < x → ones (restOf x) + 1 ≡ ones x
 ones-rest n x l h p =
     omega (arith, ap length (members-next n x l h p), members-count n x h, members-count n (restOf x) (omega (arith, rest-less x p)))

@@ -9,7 +9,7 @@ use lib.ListN.{set}
 use borrow.Author.Tests.{lt-ltb, ltb-true, le-leb, leb-true, eqb-true, eq-eqb, not-true}
 use Rattle.record.specs.Record.{entryLimit}
 use Rattle.record.specs.declared.Cell.{Cell}
-use Rattle.quorum.specs.Sets.{within, asksEnough, keepsEnough}
+use Rattle.quorum.specs.Sets.{setBits, within, asksEnough, keepsEnough}
 use Rattle.stamps.specs.declared.Pair.{Pair}
 use Rattle.method.specs.declared.Message.{Message}
 use Rattle.method.specs.declared.Goal.{Goal}
@@ -58,6 +58,11 @@ sizes-fit z s =
     (and-true _ _
     (and-true _ _ (le-leb 1 (z .clients) (s .some-client)) (le-leb (z .clients) 8 (s .clients)))
     (and-true _ _ (le-leb 1 (z .cells) (s .some-cell)) (le-leb (z .cells) 16 (s .cells))))
+
+-- a set has a bit for each replica
+pub bits-enough : (z : Sizes) → Sized z → z .replicas ≤ setBits
+unfolding setBits
+bits-enough z s = omega (arith, s .replicas)
 
 -- ---- ranks
 

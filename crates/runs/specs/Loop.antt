@@ -30,7 +30,7 @@ use Rattle.rack.specs.Sound.{soundOf}
 use Rattle.rack.specs.Owed.{owedIn, owed-in}
 use Rattle.method.specs.About.{clientOf}
 use Rattle.rack.specs.Run.{inRack, slotOf, placeIn, freed, checked, decided, addressed, cleared, recorded, entriesIn, appliedOf, turn, ranOf, runFrom}
-use Rattle.rack.specs.SoundLaws.{sound-of}
+use Rattle.rack.specs.SoundLaws.{sound-of, bits-enough}
 use Rattle.rack.specs.Decided.{lookedClient, lookedPlace, Looked, looked, Decided, decided-fits}
 use Rattle.runs.specs.Stays.{stays, sound-stays}
 use Rattle.runs.specs.Steps.{eventAt, tried, used-up, ended}
@@ -165,7 +165,7 @@ module _ (self : Rack) (allowance : ℕ) (ws : List ℕ) (r : Rack) (free : List
       let f : Decided r e p = decided-fits r e p (g .sound) d in
       sending-start (r .sizes .replicas) (r .wire) j (p .clear) s (p .message) (p .to) free after es (there-slot e j (f .inside) ej) (g .wire-long)
       (going-full e j p d ej) (g .tied) k (f .room) (within-below (r .sizes .replicas) (p .to) (f .fits .to))
-      (omega (arith, sound-of r (g .sound) .sizes .replicas))
+      (bits-enough (r .sizes) (sound-of r (g .sound) .sizes))
 
   -- the entry finds its place
   pub going-entry : (e : Event) (p : Plan) → decided r e ≡ Go p → r .count + entriesIn (p .note) ≤ 2048

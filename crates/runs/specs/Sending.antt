@@ -19,7 +19,7 @@ use Rattle.rack.specs.declared.Slot.{Slot}
 use Rattle.rack.specs.Places.{empty, full, heldIn, isEmpty, freeAt, roomOf, sentOf}
 use Rattle.method.specs.Plan.{messageOf}
 use Rattle.rack.specs.Run.{freed, cleared, addressed}
-use Rattle.quorum.specs.Sets.{membersOf, lowestOf, restOf}
+use Rattle.quorum.specs.Sets.{setBits, membersOf, lowestOf, restOf}
 use Rattle.quorum.specs.Lowest.{members-next, members-none, rest-less, ones-rest}
 
 -- the lowest free slot of a wire
@@ -152,7 +152,7 @@ pub record Sending (n : ℕ) (v : List Slot) (m : Message) (to : ℕ) (w : List 
   pub enough : ones left ≤ roomOf w
   pub long : length w ≡ 256
   pub small : left < 2 ^ n
-  pub most : n ≤ 16
+  pub most : n ≤ setBits
 
 module _ (n : ℕ) (v : List Slot) (m : Message) (to : ℕ) (w : List Slot) (free : List ℕ) (left : ℕ) (s : Sending n v m to w free left) where
   sending-room : 0 < left → 0 < roomOf w
@@ -186,7 +186,7 @@ module _ (n : ℕ) (v : List Slot) (m : Message) (to : ℕ) (w : List Slot) (fre
 -- the slot of the event was emptied or not, and the loop begins
 pub sending-start : (n : ℕ) (w : List Slot) (j : ℕ) (b : Bool) (s : Slot) (m : Message) (to : ℕ) (free after : List ℕ) → s ≡ slotAfter b (getD w j empty) → j < 256
     → length w ≡ 256 → (b ≡ true → freeAt w j ≡ false) → Tied (freeAt w) free → ((f : ℕ → Bool) → Tied f free → Tied (markedAt b f j) after)
-    → ones to ≤ roomOf w + freed b → to < 2 ^ n → n ≤ 16 → Sending n (set w j s) m to (set w j s) after to
+    → ones to ≤ roomOf w + freed b → to < 2 ^ n → n ≤ setBits → Sending n (set w j s) m to (set w j s) after to
 sending-start n w j b s m to free after es h l f t k o sm nm =
     let e : set w j s ≡ cleared b j w = ap (set w j) es ∙ cleared-is b j w in
     record {
