@@ -1,7 +1,7 @@
 /* Adzequarry for C and Rust: the calls of target/staticlib/libexports.a (made by `rt staticlib exports`).
  *
  * Every slice is a pointer and then a count of its elements; no call keeps one, and the slices of one call don't overlap.
- * Refusal numbers are the paper's (docs/FORMAT.md). A refused call writes nothing.
+ * Refusal numbers are the paper's (docs/FORMAT.md). A refused call writes nothing; the two calls on a rack say below what they leave.
  */
 #ifndef ADZEQUARRY_H
 #define ADZEQUARRY_H

@@ -1,5 +1,5 @@
 // The pace of single events: reads how many from standard input, a seven-bit number, does as many by `schedule::step`, each a call of its own on a rack of
-// 5 replicas, and writes how many were done. `compare/bench/run steps` times it.
+// 5 replicas, and writes how many were done. `compare/bench/run racks` times it.
 ghost use Prim.Native.Nat.{_≤_};
 use libc::STDIN_FILENO;
 use libc::STDOUT_FILENO;

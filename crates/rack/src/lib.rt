@@ -1,4 +1,5 @@
-// The engine: a rack of replicas, clients and cells joined by a wire, event by event.
+// The engine's state: a rack of replicas, clients and cells joined by a wire; its maker, and the answers owed. What events and schedules leave of it is
+// defined in specs/.
 pub mod maker;
 pub mod owed;
 

@@ -1,4 +1,4 @@
--- One turn of the loop at a time: each need is one law of specs/Loop.antt or specs/Sending.antt.
+-- One turn of the loop at a time: each need is one law of Loop.antt or Sending.antt of crate runs.
 use borrow.Author.Needs.{needs}
 use borrow.Author.Tests.{not-true, not-false}
 use Prim.Native.Nat.{_-_, _<_, _≤_}

@@ -1,4 +1,4 @@
--- `rows::entry_length` meets its contract. Assumes nothing.
+-- `writer::entry_length` meets its contract. Assumes nothing.
 use native.Mathlib.Omega.{arith}
 use Rattle.number.specs.ValueLaws.{alternating-of-bits}
 use Rattle.record.specs.Entry.{entryBytes}

@@ -1,4 +1,4 @@
--- `rows::four_length` meets its contract. Assumes nothing.
+-- `writer::four_length` meets its contract. Assumes nothing.
 use mathlib.Core.List.{_++_}
 use Rattle.number.specs.Number.{numberBytes}
 use native.Mathlib.Omega.{arith}

@@ -1,4 +1,4 @@
--- `rows::measure` meets its contract. The invariant: what is held from here on, with the bytes counted, is what is held in all.
+-- `writer::measure` meets its contract. The invariant: what is held from here on, with the bytes counted, is what is held in all.
 use Rattle.record.specs.Entry.{entryBytes}
 -- Assumes nothing.
 use Prim.Native.Nat.{ℕ, _+_, _*_, _-_, _/_, _≤_, _<_}

@@ -1,4 +1,4 @@
--- `rows::put_entry` meets its contract. Assumes nothing.
+-- `writer::put_entry` meets its contract. Assumes nothing.
 use Rattle.writer.proofs.Laws.{write-room, told-room}
 use Rattle.number.specs.ValueLaws.{alternating-of-bits}
 use Rattle.record.specs.Entry.{entryBytes}

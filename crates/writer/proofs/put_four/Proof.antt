@@ -1,4 +1,4 @@
--- `rows::put_four` meets its contract. Assumes nothing.
+-- `writer::put_four` meets its contract. Assumes nothing.
 use native.Mathlib.Omega.{arith}
 use mathlib.Core.List.{_++_}
 use lib.ListN.{length-append}

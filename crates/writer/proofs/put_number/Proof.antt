@@ -1,4 +1,4 @@
--- `rows::put_number` meets its contract. Assumes nothing.
+-- `writer::put_number` meets its contract. Assumes nothing.
 use Rattle.writer.proofs.Laws.{placed-next, placed-fits}
 use borrow.Author.Needs.{needs}
 use Rattle.writer.proofs.put_number.Statement.{statement}

@@ -1,4 +1,4 @@
--- `rows::put_rows` meets its contract. The invariant: n rows are written, and writing the rest gives what writing all gives.
+-- `writer::put_rows` meets its contract. The invariant: n rows are written, and writing the rest gives what writing all gives.
 -- Assumes nothing.
 use Prim.Native.Nat.{_-_}
 use mathlib.Core.Path.{sym, _∙_}

@@ -1,4 +1,4 @@
--- `rows::put_two` meets its contract. Assumes nothing.
+-- `writer::put_two` meets its contract. Assumes nothing.
 use native.Mathlib.Omega.{arith}
 use lib.ListN.{length-append}
 use Rattle.number.specs.Number.{numberBytes}

@@ -1,4 +1,4 @@
--- `rows::row_at` meets its contract. Assumes nothing.
+-- `writer::row_at` meets its contract. Assumes nothing.
 use Rattle.rows.specs.Row.{rowAt}
 use borrow.Author.Needs.{needs}
 use Rattle.writer.proofs.row_at.Statement.{statement}

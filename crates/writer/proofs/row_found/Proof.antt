@@ -1,4 +1,4 @@
--- `rows::row_found` meets its contract: each test leads to its law. Assumes nothing.
+-- `writer::row_found` meets its contract: each test leads to its law. Assumes nothing.
 use mathlib.Core.Path.{sym}
 use native.Mathlib.Omega.{arith}
 use Rattle.number.specs.ValueLaws.{signed-of-bits}

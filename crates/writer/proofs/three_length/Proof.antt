@@ -1,4 +1,4 @@
--- `rows::three_length` meets its contract. Assumes nothing.
+-- `writer::three_length` meets its contract. Assumes nothing.
 use mathlib.Core.List.{_++_}
 use Rattle.number.specs.Number.{numberBytes}
 use native.Mathlib.Omega.{arith}

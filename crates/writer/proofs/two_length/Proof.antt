@@ -1,4 +1,4 @@
--- `rows::two_length` meets its contract. Assumes nothing.
+-- `writer::two_length` meets its contract. Assumes nothing.
 use native.Mathlib.Omega.{arith}
 use lib.ListN.{length-append}
 use Rattle.number.specs.Laws.{length-few}

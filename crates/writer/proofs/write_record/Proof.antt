@@ -1,4 +1,4 @@
--- `rows::write_record` meets its contract: what was measured decides. Assumes nothing.
+-- `writer::write_record` meets its contract: what was measured decides. Assumes nothing.
 use mathlib.Core.Path.{sym, ap, _∙_}
 use native.Mathlib.Omega.{arith}
 use Rattle.rows.specs.Rows.{Outcome}
