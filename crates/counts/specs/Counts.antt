@@ -30,7 +30,7 @@ inUse wire = countFrom slotLimit 0 (λ i. not (freeAt wire i))
 
 -- ---- messages
 
--- copies: one for each copy event (messages sent and deliveries: `sentBy` and `deliveredBy` of the bench sheet)
+-- copies: one for each copy event (messages sent and deliveries: `sentBy` and `deliveredBy` of crate rack)
 unfoldable pub copiedBy : Event → ℕ
 copiedBy (StartRead client cell) = 0
 copiedBy (StartWrite client cell v) = 0
@@ -106,13 +106,13 @@ resentBy c k (Off replica) p = 0
 resentBy c k (On replica) p = 0
 resentBy c k Unknown p = 0
 
--- what the present operation of a client has cost, resends apart: one request to each of n replicas while it asks, two from then on
+-- what the last operation of a client has cost so far, resends apart: one request to each of n replicas while it asks, two from then on
 unfoldable pub costIn : ℕ → Work → ℕ
 costIn n Idle = 2 * n
 costIn n (Asking cell goal set held) = n
 costIn n (Keeping cell goal set held) = 2 * n
 
--- what its operation k has cost: an earlier one two to each, a later one nothing yet
+-- what its operation k, from 1 on, has cost: an earlier one two to each, a later one nothing yet
 unfoldable pub costOf : ℕ → Party → ℕ → ℕ
 costOf n party k = cond (ltb k (party .op)) (2 * n) (cond (eqb k (party .op)) (costIn n (party .work)) 0)
 

@@ -9,7 +9,6 @@ use lib.ListN.{getD, set, take, length, replicate, length-set, length-replicate,
 use lib.Seq.{getD-set-same, getD-set-other, take-suc-set}
 use borrow.Author.Tests.{le-ltb, eq-eqb, ne-eqb, ltb-true, ltb-false, eqb-true, eqb-false}
 use Rattle.record.specs.declared.Entry.{Entry}
-use Rattle.record.specs.declared.Entry.the-variants.{Done}
 use Rattle.record.specs.Record.{entryLimit}
 use Rattle.method.specs.declared.Work.{Work}
 use Rattle.method.specs.declared.Work.the-variants.{Idle, Asking, Keeping}
@@ -21,7 +20,7 @@ use Rattle.method.specs.declared.Note.{Note}
 use Rattle.method.specs.declared.Note.the-variants.{Nothing, Asked, Ended}
 use Rattle.method.specs.declared.Plan.{Plan}
 use Rattle.method.specs.declared.Outcome.the-variants.{Go}
-use Rattle.rack.specs.Places.{idle, partyAt, recordOf}
+use Rattle.rack.specs.Places.{blank, idle, partyAt, recordOf}
 use Rattle.rack.specs.Sound.{owes, soundOf}
 use Rattle.rack.specs.Run.{decided, recorded, entriesIn, appliedOf, freshRack, madeOf, runOf}
 use Rattle.rack.specs.SoundLaws.{sound-of}
@@ -175,7 +174,7 @@ fresh-numbered c replicas clients cells s =
         sound = s;
         replicas = refl;
         parties-long = length-replicate 8 idle;
-        lines-long = let l : Line = record { entry = Done (record { 0 = 0 }) } in length-replicate entryLimit l;
+        lines-long = length-replicate entryLimit blank;
         ends = ap (λ (x : Party). 0 + owes (x .work)) e ∙ sym (ap (λ (x : Party). x .op) e);
       },
       e,

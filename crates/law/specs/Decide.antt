@@ -1,15 +1,14 @@
--- Decided by computing: whether a given order of given operations is lawful.
+-- Decided by computing: statements, elements of lists, and operations.
 use mathlib.Core.Path.{_≡_, refl, sym, ap}
-use mathlib.Core.Logic.{_≢_, ⊎-elim}
+use mathlib.Core.Logic.{⊎-elim}
 use mathlib.Core.HLevel.{Discrete}
 use mathlib.Core.Bool.{Bool, true, false, Bool-discrete}
 use mathlib.Core.List.{List, [], _∷_, List·Memᴰ·head as here, List·Memᴰ·tail as there, List·Memᴰ·not-nil as no-mem, List·Memᴰ·cases-cons as mem-cons}
-use Prim.Native.Nat.{ℕ}
 use native.Mathlib.Decide.{ℕ-discrete, decLt}
 use lib.Dec.{T}
 use lib.IntN.{ℤ, pos, negsuc, pos-ne-negsuc}
 use Rattle.law.specs.Operation.{Op}
-use Rattle.law.specs.Order.{In, Pairs, Before, after, Reads, Ordered}
+use Rattle.law.specs.Order.{In, Before}
 
 -- ---- of any statements
 
@@ -59,21 +58,6 @@ dec-some {A} P (x ∷ xs) d = go (d x (here refl)) (dec-some P xs (λ a m. d a (
     go (yes p) r = yes (x, (here refl, p))
     go (no p) (yes w) = yes (w .0, (there (w .1 .0), w .1 .1))
     go (no p) (no q) = no (λ w. ⊎-elim (λ e. p (rw e at (w .1 .1))) (λ n. q (w .0, (n, w .1 .1))) (mem-cons (w .1 .0)))
-
--- whether each element stands in R to every later one
-unfoldable pub dec-pairs : {A : Type 0} (R : A → A → Type 0) → ((a b : A) → Dec (R a b)) → (l : List A) → Dec (Pairs R l)
-dec-pairs R d [] = yes tt
-dec-pairs R d (x ∷ xs) = dec-both (dec-all (R x) (d x) xs) (dec-pairs R d xs)
-
--- whether an element stands in a list
-unfoldable pub dec-in : {A : Type 0} → Discrete A → (a : A) (l : List A) → Dec (In a l)
-dec-in eq a [] = no no-mem
-dec-in {A} eq a (x ∷ xs) = go (eq a x) (dec-in eq a xs)
-  where
-    go : Dec (a ≡ x) → Dec (In a xs) → Dec (In a (x ∷ xs))
-    go (yes e) r = yes (here e)
-    go (no e) (yes m) = yes (there m)
-    go (no e) (no f) = no (λ m. ⊎-elim e f (mem-cons m))
 
 -- the answer, read off: it is yes
 abbrev pub Yes : {A : Type 0} → Dec A → Type 0
@@ -138,39 +122,3 @@ dec-op a b =
 -- whether one operation is before another
 unfoldable pub dec-before : (a b : Op) → Dec (Before a b)
 dec-before a b = dec-both (dec-T (a .over)) (decLt (a .stop) (b .start))
-
--- whether each read of the list gives what its cell holds, where the cells hold m at first
-unfoldable pub dec-reads : (m : ℕ → ℤ) (l : List Op) → Dec (Reads m l)
-dec-reads m [] = yes tt
-dec-reads m (x ∷ xs) = dec-both (dec-to (Bool-discrete (x .write) false) (dec-value (x .value) (m (x .cell)))) (dec-reads (after m x) xs)
-
--- all that makes l a lawful order of s, as one statement
-abbrev pub Conditions : List Op → List Op → Type 0
-Conditions s l =
-    ((x : Op) → In x l → In x s) × (((x : Op) → In x s → T (x .over) → In x l) × (((x : Op) → In x l → x .write ≡ false → T (x .over))
-    × (Pairs (λ x y. x .number ≢ y .number) l × (Pairs (λ x y. ¬ Before y x) l × Reads (λ c. pos 0) l))))
-
-pub to-ordered : (s l : List Op) → Conditions s l → Ordered s l
-to-ordered s l p =
-    record {
-      of = λ {x} m. p .0 x m;
-      all = λ {x} m t. p .1 .0 x m t;
-      ended = λ {x} m w. p .1 .1 .0 x m w;
-      once = p .1 .1 .1 .0;
-      respects = p .1 .1 .1 .1 .0;
-      reads = p .1 .1 .1 .1 .1;
-    }
-
-pub of-ordered : (s l : List Op) → Ordered s l → Conditions s l
-of-ordered s l o = (λ x m. o .of m, (λ x m t. o .all m t, (λ x m w. o .ended m w, (o .once, (o .respects, o .reads)))))
-
--- whether l is a lawful order of s
-unfoldable pub dec-ordered : (s l : List Op) → Dec (Ordered s l)
-unfolding dec-as dec-both dec-all dec-in dec-to dec-pairs dec-reads dec-not dec-before dec-T dec-op ℕ-discrete
-dec-ordered s l =
-    dec-as (to-ordered s l) (of-ordered s l)
-    (dec-both (dec-all (λ x. In x s) (λ x. dec-in dec-op x s) l)
-    (dec-both (dec-all (λ x. T (x .over) → In x l) (λ x. dec-to (dec-T (x .over)) (dec-in dec-op x l)) s)
-    (dec-both (dec-all (λ x. x .write ≡ false → T (x .over)) (λ x. dec-to (Bool-discrete (x .write) false) (dec-T (x .over))) l)
-    (dec-both (dec-pairs (λ x y. x .number ≢ y .number) (λ x y. dec-not (ℕ-discrete (x .number) (y .number))) l)
-    (dec-both (dec-pairs (λ x y. ¬ Before y x) (λ x y. dec-not (dec-before y x)) l) (dec-reads (λ c. pos 0) l))))))

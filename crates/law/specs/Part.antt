@@ -16,7 +16,7 @@ abbrev pub keepIf : {A : Type 0} → Bool → A → List A → List A
 keepIf true x xs = x ∷ xs
 keepIf false x xs = xs
 
--- the entries of es that are of operations of cell c, where each client's last operation so far is of cell `at`
+-- the entries of es that are of operations of cell c, where `at` gives the cell of each client's last operation so far
 unfoldable pub partFrom : ℕ → (ℕ → ℕ) → List Entry → List Entry
 partFrom c at [] = []
 partFrom c at (ReadAsked client cell ∷ es) =

@@ -102,7 +102,7 @@ pub record Still (s : Sight) (p : Plan) : Type 0 where
 
 -- ---- the cases
 
--- all stays but the power, and that a client stops
+-- the client's work, the pair and the record stay; the power may change, a client may stop, the slot become empty, and a message go out once more
 pub record Rests (s : Sight) (client : ℕ) (held : Held) (p : Plan) : Type 0 where
   pub still : Still s p
   pub pair : p .pair ≡ s .pair
@@ -138,7 +138,7 @@ pub record Takes (s : Sight) (client : ℕ) (held : Held) (p : Plan) : Type 0 wh
   pub says : Says p client (message .cell .0) (message .op) Kept
   pub to : p .to ≡ withReplica 0 (message .replica .0)
 
--- a tell that counts: it is for the present operation, in the ask phase, of a replica not yet in the set
+-- a tell that counts: it is for the present operation, in the ask phase, of a replica not yet in the set (that the client isn't stopped isn't needed here)
 pub record Heard (s : Sight) (client : ℕ) (held : Held) : Type 0 where
   pub message : Message
   pub told : Pair
@@ -178,7 +178,7 @@ pub record Chooses (s : Sight) (client : ℕ) (held : Held) (p : Plan) : Type 0 
   pub note : p .note ≡ Nothing
   pub says : Says p client (heard .cell .0) (s .party .op) (Keep chosen)
 
--- a kept that counts: it is for the present operation, in the keep phase, of a replica not yet in the set
+-- a kept that counts: it is for the present operation, in the keep phase, of a replica not yet in the set (that the client isn't stopped isn't needed here)
 pub record Counted (s : Sight) (client : ℕ) (held : Held) : Type 0 where
   pub message : Message
   pub got : Got client held message Kept

@@ -1,5 +1,5 @@
--- What each event does, from the few things that it looks at: n replicas, the power, the client, the pair and the slot. The paper: "What each
--- event does", with the refusals 4 to 10 and 12 of "When the rack says no"; each function tests its refusals by rising number.
+-- What each event does, from the few things that it looks at: how many replicas there are, the power, the client, the pair and the slot. The paper:
+-- "What each event does", with the refusals 3 (no event), 4 to 10 and 12 of "When the rack says no"; each function tests its refusals by rising number.
 use Prim.Native.Nat.{ℕ, _+_}
 use mathlib.Core.Bool.{Bool, true, false, cond, not, _&&_}
 use lib.Dec.{eqb}
@@ -36,7 +36,7 @@ use Rattle.method.specs.declared.Outcome.the-variants.{No, Go}
 abbrev pub messageOf : Client → Replica → Cell → ℕ → Body → Message
 messageOf client replica cell op body = record { client = client; replica = replica; cell = cell; op = op; body = body }
 
--- the client p at its operation op, not stopped
+-- a client that isn't stopped, at its operation op and this work
 abbrev pub partyAt : ℕ → Work → Party
 partyAt op work = record { stopped = false; op = op; work = work }
 

@@ -3,8 +3,6 @@ pub mod Places
 pub mod Sound
 pub mod Run
 pub mod Counts
--- Names for parts of them that the code computes.
-pub mod Parts
 -- Laws.
 pub mod Tests
 pub mod SoundLaws

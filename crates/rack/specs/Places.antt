@@ -4,7 +4,8 @@ use mathlib.Core.Bool.{Bool, true, false}
 use mathlib.Core.List.{List, [], _∷_, map}
 use lib.ListN.{getD, set, take}
 use Rattle.record.specs.declared.Entry.{Entry}
-use Rattle.slots.specs.Free.{countFree, firstFree}
+use Rattle.record.specs.declared.Entry.the-variants.{Done}
+use Rattle.slots.specs.Free.{slotCount, countFree, firstFree}
 use Rattle.stamps.specs.declared.Pair.{Pair}
 use Rattle.method.specs.declared.Message.{Message}
 use Rattle.method.specs.declared.Held.{Held}
@@ -18,7 +19,7 @@ use Rattle.stamps.specs.Stamp.{freshPair}
 
 -- the wire has 256 slots
 abbrev pub slotLimit : ℕ
-slotLimit = 256
+slotLimit = slotCount
 
 -- an empty slot
 abbrev pub empty : Slot
@@ -31,6 +32,10 @@ full m = record { held = Full m }
 -- a client that has done nothing yet
 abbrev pub idle : Party
 idle = record { stopped = false; op = 0; work = Idle }
+
+-- what stands at a place of the record that has no entry yet
+abbrev pub blank : Line
+blank = record { entry = Done (record { 0 = 0 }) }
 
 -- client i
 abbrev pub partyAt : Rack → ℕ → Party

@@ -6,7 +6,6 @@ use lib.Dec.{ltb, eqb}
 use lib.ListN.{getD, set, length, replicate}
 use lib.Count.{ones}
 use Rattle.number.specs.Value.{signedOf}
-use Rattle.record.specs.declared.Entry.the-variants.{Done}
 use Rattle.record.specs.Record.{entryLimit}
 use Rattle.quorum.specs.Sets.{everyReplica, membersOf}
 use Rattle.method.specs.declared.Message.{Message}
@@ -28,7 +27,7 @@ use Rattle.rack.specs.declared.Ran.{Ran}
 use Rattle.stamps.specs.Stamp.{freshPair}
 use Rattle.method.specs.Plan.{messageOf, planOf}
 use Rattle.method.specs.About.{clientOf}
-use Rattle.rack.specs.Places.{slotLimit, empty, idle, partyAt, pairPlace, heldAt, roomOf, sentOf}
+use Rattle.rack.specs.Places.{slotLimit, empty, blank, idle, partyAt, pairPlace, heldAt, roomOf, sentOf}
 use Rattle.rack.specs.Sound.{sizesFit, owed, soundOf}
 
 -- ---- the maker
@@ -42,7 +41,7 @@ freshRack replicas clients cells = record {
   parties = replicate 8 idle;
   pairs = replicate 240 freshPair;
   wire = replicate slotLimit empty;
-  lines = replicate entryLimit (record { entry = Done (record { 0 = 0 }) });
+  lines = replicate entryLimit blank;
 }
 
 -- 1: a size out of range, and beside it the fresh rack of sizes 1, 1, 1
@@ -107,7 +106,7 @@ placeIn (Full m) = pairPlace (m .replica .0) (m .cell .0)
 
 -- ---- the refusals that every plan has to pass
 
--- 11: start, and entries + answers owed + 2 exceeds 2,048
+-- 11: start, and entries + answers owed + 2 exceeds 2,048; taken is entries + answers owed
 unfoldable pub noted : Note → ℕ → Outcome → Outcome
 noted Nothing taken o = o
 noted (Asked e) taken o = cond (ltb entryLimit (taken + 2)) (No 11) o
@@ -118,7 +117,7 @@ unfoldable pub freed : Bool → ℕ
 freed true = 1
 freed false = 0
 
--- 13: more to send than free slots
+-- 11, then 13: more to send than free slots
 unfoldable pub checked : Outcome → ℕ → ℕ → Outcome
 checked (No k) taken room = No k
 checked (Go p) taken room = noted (p .note) taken (cond (ltb (room + freed (p .clear)) (ones (p .to))) (No 13) (Go p))

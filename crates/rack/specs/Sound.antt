@@ -2,6 +2,7 @@
 use Prim.Native.Nat.{ℕ, zero, suc, _+_}
 use mathlib.Core.Bool.{Bool, true, cond, not, _&&_, _||_}
 use lib.Dec.{ltb, leb, eqb}
+use Rattle.record.specs.declared.Cell.{Cell}
 use Rattle.record.specs.Record.{entryLimit}
 use Rattle.quorum.specs.Sets.{within, asksEnough, keepsEnough}
 use Rattle.stamps.specs.declared.Pair.{Pair}
@@ -48,13 +49,23 @@ unfoldable pub heldFits : Sizes → Held → Bool
 heldFits z Empty = true
 heldFits z (Full m) = messageFits z m
 
--- an open operation names a cell and, where it holds a pair, a rank that the rack has; its set has no replica that isn't there, and is no majority
+-- in the ask phase a pair is held only after a tell: the set is empty, or the pair names a rank that the rack has
+abbrev pub toldFits : Sizes → ℕ → Pair → Bool
+toldFits z set held = eqb set 0 || pairFits z held
+
+-- in the ask phase: cell and held pair are of this rack, the set has no replica that isn't there, and is no majority
+abbrev pub askFits : Sizes → Cell → ℕ → Pair → Bool
+askFits z cell set held = (ltb (cell .0) (z .cells) && toldFits z set held) && (within (z .replicas) set && not (asksEnough (z .replicas) set))
+
+-- in the keep phase: cell and held pair are of this rack, the set has no replica that isn't there, and is no majority
+abbrev pub keepFits : Sizes → Cell → ℕ → Pair → Bool
+keepFits z cell set held = (ltb (cell .0) (z .cells) && pairFits z held) && (within (z .replicas) set && not (keepsEnough (z .replicas) set))
+
+-- an open operation is one that its phase may have; a client without one fits
 unfoldable pub workFits : Sizes → Work → Bool
 workFits z Idle = true
-workFits z (Asking cell goal set held) =
-    (ltb (cell .0) (z .cells) && (eqb set 0 || pairFits z held)) && (within (z .replicas) set && not (asksEnough (z .replicas) set))
-workFits z (Keeping cell goal set held) =
-    (ltb (cell .0) (z .cells) && pairFits z held) && (within (z .replicas) set && not (keepsEnough (z .replicas) set))
+workFits z (Asking cell goal set held) = askFits z cell set held
+workFits z (Keeping cell goal set held) = keepFits z cell set held
 
 -- 1 for an open operation, 0 for none
 unfoldable pub owes : Work → ℕ

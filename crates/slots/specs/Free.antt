@@ -43,6 +43,6 @@ takenAt f i k = cond (eqb k i) false (f k)
 unfoldable pub givenAt : (ℕ → Bool) → ℕ → ℕ → Bool
 givenAt f i k = cond (eqb k i) true (f k)
 
--- slot i is free again where it is clear
+-- slot i is free again if the event empties it (clear), else nothing changes
 abbrev pub markedAt : Bool → (ℕ → Bool) → ℕ → ℕ → Bool
 markedAt clear f i k = cond clear (givenAt f i k) (f k)
