@@ -19,6 +19,7 @@ use Rattle.method.specs.declared.Event.{Event}
 use Rattle.method.specs.declared.Event.the-variants.{StartRead, Deliver, Resend}
 use Rattle.method.specs.declared.Note.the-variants.{Nothing, Asked, Ended}
 use Rattle.method.specs.declared.Outcome.{Outcome}
+use Rattle.method.specs.declared.Outcome.the-variants.{No}
 use Rattle.method.specs.Plan.{messageOf, partyAt, started, startIn, startOf, keepOf, current, keepsOf, phaseEnds, tellCounts, tellIn, tellOf, deliverIn, deliverOf, resendIn, resendOf, ofSlot, planOf}
 use Rattle.method.specs.Answers.{refusalIn, sentTo, noteIn}
 
@@ -83,3 +84,15 @@ giving = Full (messageOf (record { 0 = 0 }) (record { 0 = 0 }) (record { 0 = 0 }
 pub not-unanswered : (r : Outcome) → r ≡ planOf (three Idle) giving (Deliver 0) → sentTo r ≡ 0 → ⊥
 unfolding planOf ofSlot deliverOf deliverIn keepOf hasReplica withReplica setBits sentTo
 not-unanswered r p q = let e : sentTo r ≡ 1 = ap sentTo p in omega arith
+
+-- ---- what answers say
+
+-- a start asks all three replicas, and the record gets its entry; a resend by an idle client is refused 7, sends nothing and records nothing
+pub says-start : (r : Outcome) → r ≡ planOf (three Idle) Empty (StartRead (record { 0 = 0 }) (record { 0 = 0 }))
+    → (refusalIn r ≡ 0) × (sentTo r ≡ 0b111) × (noteIn r ≡ Asked (ReadAsked (record { 0 = 0 }) (record { 0 = 0 })))
+unfolding planOf startOf startIn started everyReplica setBits refusalIn sentTo noteIn
+says-start r p = (ap refusalIn p, ap sentTo p, ap noteIn p)
+
+pub says-7 : (r : Outcome) → r ≡ planOf (three Idle) Empty (Resend (record { 0 = 0 })) → (refusalIn r ≡ 7) × (sentTo r ≡ 0) × (noteIn r ≡ Nothing)
+unfolding planOf resendOf resendIn refusalIn sentTo noteIn
+says-7 r p = let e : r ≡ No 7 = p in (ap refusalIn e, ap sentTo e, ap noteIn e)

@@ -5,12 +5,12 @@ use mathlib.Core.Path.{_≡_, ap, _∙_, sym}
 use native.Mathlib.Omega.{arith}
 use lib.ListN.{length}
 use lib.IntN.{ℤ, pos, negsuc}
-use Rattle.number.specs.Number.{groupsOf, numberBytes, numberAt, putAnswer, putBytes, Placed}
+use Rattle.number.specs.Number.{groupsOf, numberBytes, taken, lastOf, valueOf, numberOf, numberAt, putAnswer, putBytes, Placed}
 use Rattle.number.specs.Value.{alternatingOf, signedOf}
 use Rattle.number.specs.Answers.{refusalOf, numberIn, nextIn, putRefusalOf, putNextIn}
 use Rattle.number.specs.Sheet.{of-127, of-128, read-80-00, read-80}
 use Rattle.number.specs.declared.Number.{Number}
-use Rattle.number.specs.declared.Number.the-variants.{Is}
+use Rattle.number.specs.declared.Number.the-variants.{Is, Refused}
 use Rattle.number.specs.declared.Put.{Put}
 use Rattle.number.specs.declared.Put.the-variants.{Next, NoRoom}
 
@@ -101,3 +101,23 @@ pub not-minus-1-of-2 : (r : ℤ) → r ≡ signedOf 2 → r ≡ negsuc 0 → ⊥
 unfolding signedOf
 not-minus-1-of-2 r p q = let a : r ≡ pos 1 = p in
     let z : _≡_ {A = ℕ} 0 1 = cc in omega arith
+
+-- ---- what answers say
+
+-- 85 02 is 261 and ends at place 2; 80 00 is refused 22, and nothing is read
+pub says-261 : (r : Number) → r ≡ numberAt (0x85 ∷ 0x02 ∷ []) 0 → (refusalOf r ≡ 0) × (numberIn r ≡ 261) × (nextIn r ≡ 2)
+unfolding numberAt numberOf taken lastOf valueOf refusalOf numberIn nextIn
+says-261 r p = let e : r ≡ Is 261 2 = p in (ap refusalOf e, ap numberIn e, ap nextIn e)
+
+pub says-22 : (r : Number) → r ≡ numberAt (0x80 ∷ 0x00 ∷ []) 0 → (refusalOf r ≡ 22) × (numberIn r ≡ 0) × (nextIn r ≡ 0)
+unfolding refusalOf numberIn nextIn
+says-22 r p = let e : r ≡ Refused 22 = p ∙ read-80-00 in (ap refusalOf e, ap numberIn e, ap nextIn e)
+
+-- 261 written at place 1 ends at place 3; where one byte is left it is refused 20
+pub says-written : (r : Put) (e : List ℕ) → Placed (7 ∷ 7 ∷ 7 ∷ []) 1 261 r e → (putRefusalOf r ≡ 0) × (putNextIn r ≡ 3)
+unfolding putAnswer groupsOf putRefusalOf putNextIn
+says-written r e p = let a : r ≡ Next 3 = p .answer in (ap putRefusalOf a, ap putNextIn a)
+
+pub says-20 : (r : Put) (e : List ℕ) → Placed (7 ∷ 7 ∷ 7 ∷ []) 2 261 r e → (putRefusalOf r ≡ 20) × (putNextIn r ≡ 0)
+unfolding putAnswer groupsOf putRefusalOf putNextIn
+says-20 r e p = let a : r ≡ NoRoom = p .answer in (ap putRefusalOf a, ap putNextIn a)

@@ -5,6 +5,8 @@ use mathlib.Core.Bool.{Bool, true, false}
 use mathlib.Core.List.{[], _∷_}
 use native.Mathlib.Omega.{arith}
 use lib.Count.{ones}
+use lib.IntN.{negsuc}
+use Rattle.number.specs.Value.{alternatingOf, signedOf}
 use Rattle.quorum.specs.Sets.{majority, asksEnough, within}
 use Rattle.method.specs.declared.Body.the-variants.{Ask, Keep, Kept}
 use Rattle.method.specs.declared.Message.{Message}
@@ -15,6 +17,7 @@ use Rattle.method.specs.declared.Work.the-variants.{Asking}
 use Rattle.method.specs.declared.Party.{Party}
 use Rattle.rack.specs.declared.Sizes.{Sizes}
 use Rattle.method.specs.declared.Event.{Event}
+use Rattle.method.specs.declared.Event.the-variants.{StartRead, StartWrite, Deliver, Lose, Copy, Resend, Stop, Off, On, Unknown}
 use Rattle.rack.specs.declared.Made.{Made}
 use Rattle.method.specs.Plan.{messageOf, partyAt}
 use Rattle.rack.specs.Places.{idle}
@@ -181,3 +184,49 @@ not-16-made r p q = let e : r .refusal ≡ 1 = ap (λ (x : Made). x .refusal) p 
 pub not-beside-16 : (r : Made) → r ≡ madeOf 16 8 16 → r .rack .sizes .replicas ≡ 16 → ⊥
 unfolding madeOf sizesFit freshRack
 not-beside-16 r p q = let e : r .rack .sizes .replicas ≡ 1 = ap (λ (x : Made). x .rack .sizes .replicas) p in omega arith
+
+-- ---- what answers say
+
+-- client 5 starts a read of cell 3, and a write there of -9, which stands in a record as 17
+pub says-read-start : (r : Event) → r ≡ eventOf 0 5 3 17 → (kindIn r ≡ 0) × (firstIn r ≡ 5) × (cellIn r ≡ 3) × (valueIn r ≡ 0)
+unfolding eventOf byte kindIn firstIn cellIn valueIn
+says-read-start r p = let e : r ≡ StartRead (record { 0 = 5 }) (record { 0 = 3 }) = p in (ap kindIn e, ap firstIn e, ap cellIn e, ap valueIn e)
+
+pub says-write-start : (r : Event) → r ≡ eventOf 1 5 3 17 → (kindIn r ≡ 1) × (firstIn r ≡ 5) × (cellIn r ≡ 3) × (valueIn r ≡ 17)
+unfolding eventOf byte signedOf alternatingOf kindIn firstIn cellIn valueIn
+says-write-start r p = let e : r ≡ StartWrite (record { 0 = 5 }) (record { 0 = 3 }) (negsuc 8) = p in (ap kindIn e, ap firstIn e, ap cellIn e, ap valueIn e)
+
+-- slot 200 is delivered, lost and copied: of the other words nothing is said
+pub says-deliver : (r : Event) → r ≡ eventOf 2 200 3 17 → (kindIn r ≡ 2) × (firstIn r ≡ 200) × (cellIn r ≡ 0) × (valueIn r ≡ 0)
+unfolding eventOf kindIn firstIn cellIn valueIn
+says-deliver r p = let e : r ≡ Deliver 200 = p in (ap kindIn e, ap firstIn e, ap cellIn e, ap valueIn e)
+
+pub says-lose : (r : Event) → r ≡ eventOf 3 200 3 17 → (kindIn r ≡ 3) × (firstIn r ≡ 200) × (cellIn r ≡ 0) × (valueIn r ≡ 0)
+unfolding eventOf kindIn firstIn cellIn valueIn
+says-lose r p = let e : r ≡ Lose 200 = p in (ap kindIn e, ap firstIn e, ap cellIn e, ap valueIn e)
+
+pub says-copy : (r : Event) → r ≡ eventOf 4 200 3 17 → (kindIn r ≡ 4) × (firstIn r ≡ 200) × (cellIn r ≡ 0) × (valueIn r ≡ 0)
+unfolding eventOf kindIn firstIn cellIn valueIn
+says-copy r p = let e : r ≡ Copy 200 = p in (ap kindIn e, ap firstIn e, ap cellIn e, ap valueIn e)
+
+-- client 5 sends again, and is stopped; replica 14 is turned off and on
+pub says-resend : (r : Event) → r ≡ eventOf 5 5 3 17 → (kindIn r ≡ 5) × (firstIn r ≡ 5) × (cellIn r ≡ 0) × (valueIn r ≡ 0)
+unfolding eventOf byte kindIn firstIn cellIn valueIn
+says-resend r p = let e : r ≡ Resend (record { 0 = 5 }) = p in (ap kindIn e, ap firstIn e, ap cellIn e, ap valueIn e)
+
+pub says-stop : (r : Event) → r ≡ eventOf 6 5 3 17 → (kindIn r ≡ 6) × (firstIn r ≡ 5) × (cellIn r ≡ 0) × (valueIn r ≡ 0)
+unfolding eventOf byte kindIn firstIn cellIn valueIn
+says-stop r p = let e : r ≡ Stop (record { 0 = 5 }) = p in (ap kindIn e, ap firstIn e, ap cellIn e, ap valueIn e)
+
+pub says-off : (r : Event) → r ≡ eventOf 7 14 3 17 → (kindIn r ≡ 7) × (firstIn r ≡ 14) × (cellIn r ≡ 0) × (valueIn r ≡ 0)
+unfolding eventOf byte kindIn firstIn cellIn valueIn
+says-off r p = let e : r ≡ Off (record { 0 = 14 }) = p in (ap kindIn e, ap firstIn e, ap cellIn e, ap valueIn e)
+
+pub says-on : (r : Event) → r ≡ eventOf 8 14 3 17 → (kindIn r ≡ 8) × (firstIn r ≡ 14) × (cellIn r ≡ 0) × (valueIn r ≡ 0)
+unfolding eventOf byte kindIn firstIn cellIn valueIn
+says-on r p = let e : r ≡ On (record { 0 = 14 }) = p in (ap kindIn e, ap firstIn e, ap cellIn e, ap valueIn e)
+
+-- kind 9 is no event, and names nothing
+pub says-no-event : (r : Event) → r ≡ eventOf 9 5 3 17 → (kindIn r ≡ 9) × (firstIn r ≡ 0) × (cellIn r ≡ 0) × (valueIn r ≡ 0)
+unfolding eventOf kindIn firstIn cellIn valueIn
+says-no-event r p = let e : r ≡ Unknown = p in (ap kindIn e, ap firstIn e, ap cellIn e, ap valueIn e)

@@ -5,16 +5,19 @@ use mathlib.Core.Path.{_≡_, ap, _∙_, sym}
 use native.Mathlib.Omega.{arith}
 use lib.ListN.{length}
 use lib.IntN.{pos}
+use Rattle.number.specs.Number.{groupsOf, taken, lastOf, valueOf, numberOf, numberAt}
+use Rattle.number.specs.Value.{alternatingOf, signedOf}
 use Rattle.record.specs.declared.Entry.{Entry}
 use Rattle.record.specs.declared.Entry.the-variants.{ReadAsked, WriteAsked, Done}
 use Rattle.record.specs.declared.Found.{Found}
+use Rattle.record.specs.declared.Found.the-variants.{At, Fault}
 use Rattle.record.specs.declared.Standing.{Standing}
 use Rattle.record.specs.declared.Answer.{Answer}
 use Rattle.record.specs.declared.Answer.the-variants.{All, Refused}
-use Rattle.record.specs.Entry.{entryAt}
+use Rattle.record.specs.Entry.{entryBytes, upTo, andThen, fieldsAt, entryAt}
 use Rattle.record.specs.Record.{fresh, openBy, opened, faultAfter, standingAfter, recordOf, surveyOf}
 use Rattle.record.specs.Answers.{foundRefusal, foundNext, foundBytes, refusalIn, entryIn, countIn}
-use Rattle.record.specs.Sheet.{sheetBytes, sheet-reads, client-8, cell-16, done-short}
+use Rattle.record.specs.Sheet.{sheetBytes, sheet-reads, client-8, cell-16, done-short, second-faulty}
 
 -- ---- what `reader::entry_at` answers
 
@@ -111,3 +114,25 @@ survey-not-refused r k n p q = let z : _≡_ {A = ℕ} 0 1 = cc (sheet-survey r 
 pub survey-not-three : (r : Answer) → r ≡ surveyOf (recordOf sheetBytes) → countIn r ≡ 3 → ⊥
 unfolding countIn
 survey-not-three r p q = omega (arith, ap countIn (sheet-survey r p))
+
+-- ---- what answers say
+
+-- the sheet's first entry has the four bytes 01 00 02 0A and ends at place 4; client 8 is refused 25, and no entry is handed out
+pub says-entry : (r : Found) → r ≡ entryAt sheetBytes 0 → (foundRefusal r ≡ 0) × (foundNext r ≡ 4) × (foundBytes r ≡ 0x01 ∷ 0x00 ∷ 0x02 ∷ 0x0A ∷ [])
+unfolding entryAt fieldsAt upTo andThen numberAt numberOf taken lastOf valueOf signedOf entryBytes groupsOf alternatingOf foundRefusal foundNext foundBytes
+says-entry r p =
+    let e : r ≡ At (WriteAsked (record { 0 = 0 }) (record { 0 = 2 }) (pos 5)) 4 = p in
+    (ap foundRefusal e, ap foundNext e, ap foundBytes e)
+
+pub says-25 : (r : Found) → r ≡ entryAt (0x00 ∷ 0x08 ∷ 0x00 ∷ []) 0 → (foundRefusal r ≡ 25) × (foundNext r ≡ 0) × (foundBytes r ≡ [])
+unfolding foundRefusal foundNext foundBytes
+says-25 r p = let e : r ≡ Fault 25 = p ∙ client-8 in (ap foundRefusal e, ap foundNext e, ap foundBytes e)
+
+-- the sheet's record is four entries; kind 9 after its first entry is refused 24 at entry 1, and none is counted
+pub says-four : (r : Answer) → r ≡ surveyOf (recordOf sheetBytes) → (refusalIn r ≡ 0) × (entryIn r ≡ 0) × (countIn r ≡ 4)
+unfolding refusalIn entryIn countIn
+says-four r p = let e = sheet-survey r p in (ap refusalIn e, ap entryIn e, ap countIn e)
+
+pub says-24 : (r : Answer) → r ≡ surveyOf (recordOf (0x01 ∷ 0x00 ∷ 0x02 ∷ 0x0A ∷ 0x09 ∷ [])) → (refusalIn r ≡ 24) × (entryIn r ≡ 1) × (countIn r ≡ 0)
+unfolding surveyOf refusalIn entryIn countIn
+says-24 r p = let e : r ≡ Refused 24 1 = p ∙ ap surveyOf second-faulty in (ap refusalIn e, ap entryIn e, ap countIn e)

@@ -3,10 +3,11 @@ use Prim.Native.Nat.{ℕ}
 use mathlib.Core.List.{List, [], _∷_}
 use mathlib.Core.Path.{_≡_, ap, _∙_, sym}
 use native.Mathlib.Omega.{arith}
+use Rattle.number.specs.Number.{taken, lastOf, valueOf, numberOf, numberAt}
 use Rattle.script.specs.declared.Words.{Words}
 use Rattle.script.specs.declared.Words.the-variants.{Are, Refused}
 use Rattle.script.specs.declared.Filled.{Filled}
-use Rattle.script.specs.Script.{headOf, eventAt, scriptOf, Fills}
+use Rattle.script.specs.Script.{andThen, lastAt, headOf, cellAt, fieldsAt, eventAt, scriptOf, Fills}
 use Rattle.script.specs.Answers.{refusalOf, placeIn, fourIn}
 use Rattle.script.specs.Sheet.{bench, bench-head, bench-write, bench-count, bench-place, empty-script, cut-script, unknown-code}
 
@@ -81,3 +82,14 @@ not-one r e p q = let z : _≡_ {A = ℕ} 1 2 = sym q ∙ p .count ∙ bench-cou
 
 pub not-back : (r : Filled) (e : List ℕ) → Fills bench 8 (7 ∷ 7 ∷ 7 ∷ 7 ∷ 7 ∷ 7 ∷ 7 ∷ 7 ∷ 7 ∷ []) r e → r .next ≡ 8 → ⊥
 not-back r e p q = let z : _≡_ {A = ℕ} 8 12 = sym q ∙ p .next ∙ bench-place in omega arith
+
+-- ---- what answers say
+
+-- client 2 writes 9 to cell 5: the four numbers, and place 4 after them; an unknown code: 15 at byte 6, and no numbers
+pub says-words : (r : Words) → r ≡ eventAt (0x01 ∷ 0x02 ∷ 0x05 ∷ 0x12 ∷ []) 0 → (refusalOf r ≡ 0) × (placeIn r ≡ 4) × (fourIn r ≡ 1 ∷ 2 ∷ 5 ∷ 18 ∷ [])
+unfolding eventAt fieldsAt cellAt lastAt andThen numberAt numberOf taken lastOf valueOf refusalOf placeIn fourIn
+says-words r p = let e : r ≡ Are 1 2 5 18 4 = p in (ap refusalOf e, ap placeIn e, ap fourIn e)
+
+pub says-15 : (r : Words) → r ≡ scriptOf (0x03 ∷ 0x01 ∷ 0x01 ∷ 0x64 ∷ 0x02 ∷ 0x00 ∷ 0x09 ∷ 0x80 ∷ []) → (refusalOf r ≡ 15) × (placeIn r ≡ 6) × (fourIn r ≡ [])
+unfolding refusalOf placeIn fourIn
+says-15 r p = let e : r ≡ Refused 15 6 = p ∙ unknown-code in (ap refusalOf e, ap placeIn e, ap fourIn e)

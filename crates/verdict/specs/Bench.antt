@@ -3,7 +3,7 @@
 use Prim.Native.Nat.{ℕ, zero, suc, _<_}
 use mathlib.Core.Path.{_≡_, refl, ap}
 use mathlib.Core.Bool.{Bool, true, false, _&&_}
-use mathlib.Core.List.{List, [], _∷_}
+use mathlib.Core.List.{List, [], _∷_, _++_}
 use native.Mathlib.Omega.{arith}
 use lib.Dec.{ltb}
 use lib.ListN.{take}
@@ -23,8 +23,9 @@ use Rattle.pairs.specs.Enough.{byteLimit, enough}
 use Rattle.verdict.specs.declared.Verdict.{Verdict}
 use Rattle.verdict.specs.declared.Verdict.the-variants.{Lawful as saysLawful, Unlawful as saysUnlawful, Refused as saysRefused}
 use Rattle.verdict.specs.Verdict.{asksFor, askedAmong, repeats, distinctFrom, distinct, takenFor, Lowest, Judges}
-use Rattle.verdict.specs.Answers.{cellIn}
-use Rattle.verdict.specs.OnlyOne.{one-verdict}
+use Rattle.verdict.specs.Answers.{caseOf, refusalIn, entryIn, cellIn}
+use Rattle.verdict.specs.OnlyOne.{one-verdict, refused-exactly}
+use Rattle.verdict.specs.Sheet.{twice}
 
 -- the first 16,385 bytes of any input decide the verdict on it
 pub decides : (s : List ℕ) → takenFor (take byteLimit s) ≡ takenFor s
@@ -106,3 +107,20 @@ not-always-refused k n j = let e = twelve-verdict (saysRefused k n) j in let z :
 pub not-another-cell : Judges (takenFor stale) (saysUnlawful (record { 0 = 0 })) → ⊥
 unfolding cellIn
 not-another-cell j = let z : _≡_ {A = ℕ} 0 2 = ap cellIn (stale-verdict (saysUnlawful (record { 0 = 0 })) j) in omega arith
+
+-- ---- what answers say
+
+-- the sheet's record: 0, lawful; with last byte 00: 1, not lawful, and cell 2; with its first entry again: 2, refused, 29 at entry 4
+pub says-lawful : (v : Verdict) → Judges (takenFor sheetBytes) v → (caseOf v ≡ 0) × (refusalIn v ≡ 0) × (entryIn v ≡ 0) × (cellIn v ≡ 0)
+unfolding caseOf refusalIn entryIn cellIn
+says-lawful v j = let e = twelve-verdict v j in (ap caseOf e, ap refusalIn e, ap entryIn e, ap cellIn e)
+
+pub says-cell-2 : (v : Verdict) → Judges (takenFor stale) v → (caseOf v ≡ 1) × (refusalIn v ≡ 0) × (entryIn v ≡ 0) × (cellIn v ≡ 2)
+unfolding caseOf refusalIn entryIn cellIn
+says-cell-2 v j = let e = stale-verdict v j in (ap caseOf e, ap refusalIn e, ap entryIn e, ap cellIn e)
+
+pub says-29 : (v : Verdict) → Judges (takenFor (sheetBytes ++ (0x01 ∷ 0x00 ∷ 0x02 ∷ 0x0A ∷ []))) v → (caseOf v ≡ 2) × (refusalIn v ≡ 29) × (entryIn v ≡ 4) × (cellIn v ≡ 0)
+unfolding caseOf refusalIn entryIn cellIn
+says-29 v j =
+    let e : v ≡ saysRefused 29 4 = refused-exactly (takenFor (sheetBytes ++ (0x01 ∷ 0x00 ∷ 0x02 ∷ 0x0A ∷ []))) v j 29 4 .1 twice in
+    (ap caseOf e, ap refusalIn e, ap entryIn e, ap cellIn e)
