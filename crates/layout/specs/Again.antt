@@ -25,10 +25,11 @@ use Rattle.layout.specs.Layout.{wordCount, partyPlace, pairPlace, slotPl
 use Rattle.layout.specs.Reading.{byteOf, pairIn, partyIn, slotIn, lineIn, lineKnown, linesIn, countOf, countIn, powerOf, sizesIn, rackOf}
 use Rattle.layout.specs.Writing.{pairWords, partyWords, slotWords, headOf, partiesPut, pairWritten, pairsPut, wirePut, entryIn, recordPut, writtenOf}
 use Rattle.layout.specs.Firsts.{firsts-long, firsts-at}
-use Rattle.layout.specs.Places.{Stands, sets-stand, first-long, parts-below, parts-stand}
+use Rattle.layout.specs.PlaceLaws.{Stands, sets-stand, first-long, parts-below, parts-stand}
 use Rattle.layout.specs.Trip.{entryFits, line-known, line-again, pair-long, pair-again, heldSmall, slot-long, slot-again, workSmall, plain, party-long, party-again}
 
--- what the types of a rack's parts can hold: bytes, 16 bits, fifteen bits of power
+-- what the words can say again: fifteen bits of power, operation numbers and sets of 16 bits, names and ranks that a byte holds, and entries of clients
+-- below 8 and cells below 16
 pub record Small (r : Rack) : Type 0 where
   pub power : r .power < 32768
   pub ops : (i : ℕ) → i < r .sizes .clients → partyAt r i .op < 65536

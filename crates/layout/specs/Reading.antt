@@ -23,6 +23,7 @@ use Rattle.rack.specs.declared.Line.{Line}
 use Rattle.rack.specs.declared.Sizes.{Sizes}
 use Rattle.rack.specs.declared.Rack.{Rack}
 use Rattle.stamps.specs.Stamp.{freshPair}
+use Rattle.rack.specs.Places.{slotLimit}
 use Rattle.rack.specs.Sound.{allBelow}
 use Rattle.layout.specs.Layout.{partyPlace, pairPlace, slotPlace, entryPlace, word, firsts}
 
@@ -158,6 +159,6 @@ rackOf ws =
       count = countIn ws;
       parties = firsts 8 (λ i. partyIn ws (partyPlace i));
       pairs = firsts 240 (λ i. pairIn ws (pairPlace i));
-      wire = firsts 256 (λ i. slotIn ws (slotPlace i));
+      wire = firsts slotLimit (λ i. slotIn ws (slotPlace i));
       lines = linesIn (countOf ws) ws;
     }

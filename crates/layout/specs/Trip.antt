@@ -29,7 +29,7 @@ use Rattle.stamps.specs.Stamp.{freshPair}
 use Rattle.layout.specs.Layout.{word}
 use Rattle.layout.specs.Reading.{byteOf, setOf, pairIn, goalOf, workOf, workIn, partyKnown, partyIn, bodyOf, messageKnown, fullIn, heldOf, entryKnown, lineKnown, lineIn}
 use Rattle.layout.specs.Writing.{pairWords, noPair, openWords, toldWords, workWords, flag, partyWords, bodyKind, bodyWords, slotWords}
-use Rattle.layout.specs.Places.{Stands}
+use Rattle.layout.specs.PlaceLaws.{Stands}
 
 -- a word of a part
 at-of : (ws : List ℕ) (at n o : ℕ) (xs : List ℕ) → Stands ws at xs → length xs ≡ n → o < n → word ws (at + o) ≡ getD xs o 0

@@ -23,7 +23,7 @@ use Rattle.method.specs.declared.Party.{Party}
 use Rattle.rack.specs.declared.Line.{Line}
 use Rattle.rack.specs.declared.Rack.{Rack}
 use Rattle.stamps.specs.Stamp.{freshPair}
-use Rattle.rack.specs.Places.{partyAt, heldAt}
+use Rattle.rack.specs.Places.{slotLimit, partyAt, heldAt}
 use Rattle.layout.specs.Layout.{partyPlace, pairPlace, slotPlace, entryPlace}
 
 -- a pair: number, rank, value
@@ -106,7 +106,7 @@ pairsPut r ws = putFirsts (16 * r .sizes .replicas) pairPlace (λ i. pairWritten
 
 -- then the slots of its wire
 unfoldable pub wirePut : Rack → List ℕ → List ℕ
-wirePut r ws = putFirsts 256 slotPlace (λ i. slotWords (heldAt r i)) ws
+wirePut r ws = putFirsts slotLimit slotPlace (λ i. slotWords (heldAt r i)) ws
 
 -- entry i of the record; past the end of the array, where no count leads, a read
 abbrev pub entryIn : List Line → ℕ → Entry

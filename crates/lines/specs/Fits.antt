@@ -14,7 +14,7 @@ use Rattle.record.specs.declared.Entry.{Entry}
 use Rattle.record.specs.declared.Entry.the-variants.{ReadAsked, WriteAsked, Told, Done}
 use Rattle.record.specs.Entry.{entryBytes}
 use Rattle.record.specs.Record.{allOf, bytesOf}
-use Rattle.quorum.specs.Sets.{hasReplica}
+use Rattle.quorum.specs.Sets.{setBits, hasReplica}
 use Rattle.stamps.specs.declared.Pair.{Pair}
 use Rattle.method.specs.declared.Body.{Body}
 use Rattle.method.specs.declared.Body.the-variants.{Ask, Tell, Keep, Kept}
@@ -88,11 +88,12 @@ member-few set k = go (hasReplica set k)
     go false = record { few = omega arith }
 
 members-few : (set : ℕ) → Few (membersText set) 336
+unfolding setBits
 members-few set = go (eqb set 0)
   where
-    go : (t : Bool) → Few (cond t fromNone (eachBelow 16 (λ k. memberText set k))) 336
+    go : (t : Bool) → Few (cond t fromNone (eachBelow setBits (λ k. memberText set k))) 336
     go true = record { few = omega arith }
-    go false = record { few = omega (arith, each-few 16 21 (λ k. memberText set k) (member-few set) .few) }
+    go false = record { few = omega (arith, each-few setBits 21 (λ k. memberText set k) (member-few set) .few) }
 
 open-few : (op cell : ℕ) (goal : Goal) (set : ℕ) → Few (openText op cell goal set) 419
 open-few op cell goal set = record { few = simp length-append (omega (arith, goal-few goal .few, digits-few 20 cell .few, digits-few 20 op .few, members-few set .few)) }

@@ -5,7 +5,7 @@ use mathlib.Core.Bool.{Bool, true, false, cond}
 use lib.Dec.{eqb}
 use Rattle.text.specs.Text.{decimal, field, refusedWord, lineFeed, valueText, hexText}
 use Rattle.record.specs.Record.{bytesOf}
-use Rattle.quorum.specs.Sets.{hasReplica}
+use Rattle.quorum.specs.Sets.{setBits, hasReplica}
 use Rattle.stamps.specs.declared.Pair.{Pair}
 use Rattle.method.specs.declared.Body.{Body}
 use Rattle.method.specs.declared.Body.the-variants.{Ask, Tell, Keep, Kept}
@@ -76,7 +76,7 @@ memberText set k = cond (hasReplica set k) (field space k) []
 
 -- the members of a set, a space before each; " none" where there is none
 abbrev pub membersText : ℕ → List ℕ
-membersText set = cond (eqb set 0) fromNone (eachBelow 16 (λ k. memberText set k))
+membersText set = cond (eqb set 0) fromNone (eachBelow setBits (λ k. memberText set k))
 
 -- an open operation: read or write, cell, operation number, and the replicas that have answered
 abbrev pub openText : ℕ → ℕ → Goal → ℕ → List ℕ

@@ -1,20 +1,16 @@
--- Worked examples of each kind of line, and that no other outcome fits a call.
-use Prim.Native.Nat.{ℕ}
+-- Worked examples of each kind of line.
 use mathlib.Core.Path.{_≡_, refl}
 use mathlib.Core.Bool.{true, false}
-use mathlib.Core.List.{List, [], _∷_}
-use native.Mathlib.Omega.{arith}
+use mathlib.Core.List.{[], _∷_}
 use lib.IntN.{pos, negsuc}
-use Rattle.text.specs.Text.{digitsOf, valueText, Printed}
-use Rattle.text.specs.Sheet.{only-one}
-use Rattle.quorum.specs.Sets.{hasReplica}
+use Rattle.text.specs.Text.{digitsOf, valueText}
+use Rattle.quorum.specs.Sets.{setBits, hasReplica}
 use Rattle.stamps.specs.declared.Pair.{Pair}
 use Rattle.method.specs.declared.Body.the-variants.{Ask, Keep}
 use Rattle.method.specs.declared.Held.the-variants.{Full}
 use Rattle.method.specs.declared.Goal.the-variants.{Read, Write}
 use Rattle.method.specs.declared.Work.the-variants.{Idle, Asking, Keeping}
-use Rattle.rack.specs.declared.Ran.{Ran}
-use Rattle.lines.specs.Lines.{eachBelow, slotLine, clientLine, sizesLine, ranText, faultLine}
+use Rattle.lines.specs.Lines.{eachBelow, slotLine, clientLine, sizesLine, faultLine}
 
 -- stamp (1, 0) with value 9
 abbrev nine : Pair
@@ -44,7 +40,7 @@ stopped-line = refl
 -- `client 1 asking read cell 2 op 3 from 0 2 held 1.0=9`
 pub asking-line : clientLine 1 (record { stopped = false; op = 3; work = Asking (record { 0 = 2 }) Read 5 nine })
     ≡ 99 ∷ 108 ∷ 105 ∷ 101 ∷ 110 ∷ 116 ∷ 32 ∷ 49 ∷ 32 ∷ 97 ∷ 115 ∷ 107 ∷ 105 ∷ 110 ∷ 103 ∷ 32 ∷ 114 ∷ 101 ∷ 97 ∷ 100 ∷ 32 ∷ 99 ∷ 101 ∷ 108 ∷ 108 ∷ 32 ∷ 50 ∷ 32 ∷ 111 ∷ 112 ∷ 32 ∷ 51 ∷ 32 ∷ 102 ∷ 114 ∷ 111 ∷ 109 ∷ 32 ∷ 48 ∷ 32 ∷ 50 ∷ 32 ∷ 104 ∷ 101 ∷ 108 ∷ 100 ∷ 32 ∷ 49 ∷ 46 ∷ 48 ∷ 61 ∷ 57 ∷ 10 ∷ []
-unfolding digitsOf valueText eachBelow hasReplica
+unfolding digitsOf valueText eachBelow setBits hasReplica
 asking-line = refl
 
 -- `client 1 asking read cell 2 op 3 from none held none`
@@ -68,26 +64,3 @@ rack-line = refl
 pub refused-line : faultLine 15 6 ≡ 114 ∷ 101 ∷ 102 ∷ 117 ∷ 115 ∷ 101 ∷ 100 ∷ 32 ∷ 49 ∷ 53 ∷ 32 ∷ 97 ∷ 116 ∷ 32 ∷ 98 ∷ 121 ∷ 116 ∷ 101 ∷ 32 ∷ 54 ∷ 10 ∷ []
 unfolding digitsOf faultLine
 refused-line = refl
-
--- ---- only one outcome
-
-pub one-ran : (before : List ℕ) (at : ℕ) (q : Ran) {r s : ℕ} {after other : List ℕ} → Printed before at (ranText q) r after → Printed before at (ranText q) s other → (r ≡ s) × (after ≡ other)
-one-ran before at q a b = only-one before at (ranText q) a b
-
-pub one-fault : (before : List ℕ) (at refusal byte : ℕ) {r s : ℕ} {after other : List ℕ} → Printed before at (faultLine refusal byte) r after → Printed before at (faultLine refusal byte) s other → (r ≡ s) × (after ≡ other)
-one-fault before at refusal byte a b = only-one before at (faultLine refusal byte) a b
-
--- no line is left unsaid, and none is said where there is no room
-pub not-silent : (q : Ran) (after : List ℕ) → Printed (7 ∷ []) 0 (ranText q) 0 after → ⊥
-unfolding ranText
-not-silent q after p = omega (arith, p .place)
-
-pub not-past : (q : Ran) (after : List ℕ) → Printed [] 0 (ranText q) 1 after → ⊥
-not-past q after p = omega (arith, p .place)
-
-pub not-silent-fault : (refusal byte : ℕ) (after : List ℕ) → Printed (7 ∷ []) 0 (faultLine refusal byte) 0 after → ⊥
-unfolding faultLine
-not-silent-fault refusal byte after p = omega (arith, p .place)
-
-pub not-past-fault : (refusal byte : ℕ) (after : List ℕ) → Printed [] 0 (faultLine refusal byte) 1 after → ⊥
-not-past-fault refusal byte after p = omega (arith, p .place)

@@ -5,7 +5,7 @@ use mathlib.Core.List.{List, [], _∷_}
 use native.Mathlib.Omega.{arith}
 use Rattle.number.specs.Number.{numberAt, numberOf, taken, lastOf}
 use Rattle.text.specs.Text.{digitsOf, Printed}
-use Rattle.text.specs.Sheet.{only-one}
+use Rattle.text.specs.OnlyOne.{only-one}
 use Rattle.script.specs.Script.{andThen, headOf, scriptOf}
 use Rattle.rack.specs.declared.Ran.{Ran}
 use Rattle.rack.specs.Sound.{sizesFit}

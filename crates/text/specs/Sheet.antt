@@ -1,13 +1,9 @@
--- Worked examples, and that no other outcome fits a call.
-use Prim.Native.Nat.{ℕ}
-use mathlib.Core.Path.{_≡_, refl, sym, _∙_}
-use mathlib.Core.List.{List, [], _∷_}
-use native.Mathlib.Omega.{arith}
+-- Worked examples.
+use mathlib.Core.Path.{_≡_, refl}
+use mathlib.Core.List.{[], _∷_}
 use lib.IntN.{pos, negsuc}
 use Rattle.number.specs.Number.{groupsOf, numberBytes}
-use Rattle.text.specs.Text.{digitsOf, decimal, valueText, hexDigit, hexText, Printed}
-
--- ---- examples
+use Rattle.text.specs.Text.{digitsOf, decimal, valueText, hexDigit, hexText}
 
 pub zero-is : decimal 0 ≡ 48 ∷ []
 unfolding digitsOf
@@ -29,17 +25,3 @@ not-below-is = refl
 pub hex-300 : hexText (numberBytes 300) ≡ 32 ∷ 65 ∷ 67 ∷ 32 ∷ 48 ∷ 50 ∷ []
 unfolding hexText hexDigit groupsOf
 hex-300 = refl
-
--- ---- only one outcome
-
--- the place and the bytes afterwards are settled, whatever the text
-pub only-one : (before : List ℕ) (at : ℕ) (text : List ℕ) {r s : ℕ} {after other : List ℕ} → Printed before at text r after → Printed before at text s other → (r ≡ s) × (after ≡ other)
-only-one before at text a b = (a .place ∙ sym (b .place), a .list ∙ sym (b .list))
-
--- a byte that fits is written and counted, and one that doesn't is neither
-pub not-unwritten : (r : ℕ) → Printed (7 ∷ []) 0 (9 ∷ []) r (7 ∷ []) → ⊥
-not-unwritten r p = let b : _≡_ {A = List ℕ} (7 ∷ []) (9 ∷ []) = p .list in
-    let z : _≡_ {A = ℕ} 7 9 = cc in omega arith
-
-pub not-past : (after : List ℕ) → Printed (7 ∷ []) 1 (9 ∷ []) 2 after → ⊥
-not-past after p = omega (arith, p .place)

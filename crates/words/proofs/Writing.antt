@@ -14,7 +14,7 @@ use Rattle.method.specs.declared.Party.{Party}
 use Rattle.rack.specs.declared.Rack.{Rack}
 use Rattle.method.specs.declared.Work.{Work}
 use Rattle.method.specs.declared.Work.the-variants.{Asking, Keeping}
-use Rattle.layout.specs.Places.{first-long}
+use Rattle.layout.specs.PlaceLaws.{first-long}
 use Rattle.layout.specs.Trip.{open-long}
 use Rattle.layout.specs.Writing.{pairWords, openWords, toldWords, workWords, flag, partyWords, bodyKind, bodyWords, slotWords, putFirsts, headOf, partiesPut, pairsPut, wirePut, recordPut, writtenOf}
 

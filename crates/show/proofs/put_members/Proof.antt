@@ -2,6 +2,7 @@
 use Prim.Native.Nat.{_-_, _≤_}
 use borrow.Author.Needs.{needs}
 use borrow.Author.Tests.{eq-eqb, ne-eqb}
+use Rattle.quorum.specs.Sets.{setBits}
 use Rattle.text.specs.Text.{Printed}
 use Rattle.text.specs.Printing.{printed-length}
 use Rattle.show.proofs.Laws.{each-none, each-next, each-all}
@@ -46,6 +47,7 @@ same-length-2 : tie.Need-same-length-2 Inv-loop μ-loop
 same-length-2 c = printed-length (c .before .loop .inv .1)
 
 returns-2 : tie.Need-returns-2 Inv-loop μ-loop
+unfolding setBits
 returns-2 c = rw (ne-eqb _ 0 (c .before .before .if1 .left)) (each-all _ _ _ (c .before .loop .inv .0) (c .loop-test .left) (c .before .loop .inv .1))
 
 pub put-members-spec : {M : Type 1} → statement M
