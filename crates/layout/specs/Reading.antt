@@ -5,7 +5,6 @@ use mathlib.Core.Bool.{Bool, false, cond, _&&_, _||_, not}
 use lib.Dec.{ltb, eqb}
 use lib.ListN.{drop, replicate}
 use Rattle.number.specs.Value.{signedOf}
-use Rattle.record.specs.declared.Entry.the-variants.{Done}
 use Rattle.rows.specs.Row.{entryOf}
 use Rattle.record.specs.Record.{entryLimit}
 use Rattle.stamps.specs.declared.Pair.{Pair}
@@ -23,7 +22,7 @@ use Rattle.rack.specs.declared.Line.{Line}
 use Rattle.rack.specs.declared.Sizes.{Sizes}
 use Rattle.rack.specs.declared.Rack.{Rack}
 use Rattle.stamps.specs.Stamp.{freshPair}
-use Rattle.rack.specs.Places.{slotLimit}
+use Rattle.rack.specs.Places.{slotLimit, blank}
 use Rattle.rack.specs.Sound.{allBelow}
 use Rattle.layout.specs.Layout.{partyPlace, pairPlace, slotPlace, entryPlace, word, firsts}
 
@@ -119,11 +118,7 @@ entryKnown kind client cell = ltb kind 4 && (ltb client 8 && (not (ltb kind 2) |
 unfoldable pub lineKnown : List ℕ → ℕ → Bool
 lineKnown ws at = entryKnown (word ws at) (word ws (at + 1)) (word ws (at + 2))
 
--- beyond the count stands what stands in a fresh rack
-abbrev pub blank : Line
-blank = record { entry = Done (record { 0 = 0 }) }
-
--- the first n entries, and beyond them blank ones
+-- the first n entries, and beyond them what stands in a fresh rack
 unfoldable pub linesIn : ℕ → List ℕ → List Line
 linesIn n ws = firsts n (λ i. lineIn ws (entryPlace i)) ++ drop n (replicate entryLimit blank)
 
