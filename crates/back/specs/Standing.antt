@@ -1,17 +1,18 @@
 -- The record of a rack and its clients agree: what the record leaves open is what the clients are at. The paper: "The rack", "What each event
 -- does", and the faults 24 to 28 of "The record and its bytes".
+use mir.Syntax.{w32}
+use mir.Val.{SFits}
+use Rattle.method.specs.declared.Event.{Event}
+use Rattle.method.specs.declared.Event.the-variants.{StartRead, StartWrite, Deliver, Lose, Copy, Resend, Stop, Off, On, Unknown}
 use Prim.Native.Nat.{ℕ, _≤_, _<_}
 use mathlib.Core.Path.{_≡_}
 use mathlib.Core.List.{List, [], _∷_}
 use lib.ListN.{getD, length}
-use mir.Syntax.{w32}
-use mir.Val.{SFits}
 use Rattle.record.specs.declared.Entry.{Entry}
 use Rattle.record.specs.declared.Entry.the-variants.{ReadAsked, WriteAsked, Told, Done}
 use Rattle.record.specs.Record.{entryLimit, fresh}
 use Rattle.record.specs.Legal.{Follows}
-use Rattle.law.specs.Steps.{has}
-use Rattle.law.specs.Operations.{standing}
+use Rattle.law.specs.Standing.{has, standing}
 use Rattle.stamps.specs.declared.Pair.{Pair}
 use Rattle.method.specs.declared.Body.{Body}
 use Rattle.method.specs.declared.Body.the-variants.{Ask, Tell, Keep, Kept}
@@ -25,6 +26,19 @@ use Rattle.rack.specs.declared.Sizes.{Sizes}
 use Rattle.rack.specs.declared.Rack.{Rack}
 use Rattle.stamps.specs.Stamp.{freshPair}
 use Rattle.rack.specs.Places.{partyAt, heldAt, recordOf}
+
+-- an event asks for a value of 32 bits
+abbrev pub EventSmall : Event → Type 0
+EventSmall (StartRead client cell) = Unit {0}
+EventSmall (StartWrite client cell v) = SFits w32 v
+EventSmall (Deliver slot) = Unit {0}
+EventSmall (Lose slot) = Unit {0}
+EventSmall (Copy slot) = Unit {0}
+EventSmall (Resend client) = Unit {0}
+EventSmall (Stop client) = Unit {0}
+EventSmall (Off replica) = Unit {0}
+EventSmall (On replica) = Unit {0}
+EventSmall Unknown = Unit {0}
 
 -- ---- what is open
 

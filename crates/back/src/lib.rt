@@ -5,7 +5,7 @@ ghost use lib.ListN.{length};
 ghost use lib.Seq.{sets};
 ghost use Rattle.rows.specs.Rows.{rowsOf, writeOutcome, Leaves};
 ghost use Rattle.rack.specs.Places.{recordOf};
-ghost use Rattle.back.specs.Lines.{entriesOf};
+ghost use Rattle.back.specs.laws.Lines.{entriesOf};
 use rack::Line;
 use rack::Rack;
 use record::Answer;

@@ -12,7 +12,8 @@ use Rattle.chains.specs.declared.Linked.the-variants.{All as allLinked, 
 use Rattle.chains.specs.declared.Write.{Write}
 use Rattle.chains.specs.declared.Write.the-variants.{At, None}
 use Rattle.chains.specs.Chains.{Again, NoneAgain}
-use Rattle.chains.specs.Table.{homeAt, Homed, Latest, Chained, Empty, Found, Linking, Tells, Entered}
+use Rattle.chains.specs.Table.{homeAt, Homed, Latest, Chained, Empty, Found, Linking}
+use Rattle.chains.specs.laws.Entering.{Tells, Entered}
 
 -- below n + 1 is n, or below n
 upper : {n p : ℕ} → p < n + 1 → (p ≡ n) ⊎ (p < n)

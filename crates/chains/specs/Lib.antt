@@ -1,5 +1,5 @@
--- Definitions. Chains: which entry asks what, and which asks again. Table: the table of writes, linking and searching.
+-- What has to be believed: definitions.
 pub mod Chains
 pub mod Table
--- Laws.
-pub mod Laws
+-- What is proved of them.
+pub mod laws

@@ -2,7 +2,6 @@
 -- and 0 where there is none.
 use Prim.Native.Nat.{ℕ, _+_, _*_, _-_, _/_, _%_, _≤_, _<_}
 use mathlib.Core.Path.{_≡_}
-use mathlib.Core.Bool.{Bool, true, false}
 use mathlib.Core.List.{List}
 use lib.ListN.{length, getD}
 use Rattle.chains.specs.declared.Linked.{Linked}
@@ -53,13 +52,3 @@ pub record Found (kinds cells values : List ℕ) (n cell value : ℕ) (r : Write
 pub record Linking (kinds cells values : List ℕ) (n : ℕ) (head next : List ℕ) (r : Linked) : Type 0 where
   pub all : r ≡ allLinked → NoneAgain kinds cells values n × Chained kinds cells values n head next
   pub again : (p : ℕ) → r ≡ againAt p → (p < n) × (Again kinds cells values p × NoneAgain kinds cells values p)
-
--- a test says whether P holds
-pub record Tells (P : Type 0) (r : Bool) : Type 0 where
-  pub yes : r ≡ true → P
-  pub no : r ≡ false → P → ⊥
-
--- what entering entry p gives: the table with it, or it asks again
-pub record Entered (kinds cells values : List ℕ) (p : ℕ) (head next : List ℕ) (r : Bool) : Type 0 where
-  pub entered : r ≡ true → Chained kinds cells values (p + 1) head next × (Again kinds cells values p → ⊥)
-  pub again : r ≡ false → Again kinds cells values p

@@ -3,7 +3,8 @@ ghost use mathlib.Core.Path.{_≡_};
 ghost use Prim.Native.Nat.{_+_, _%_, _≤_, _<_};
 ghost use lib.ListN.{getD};
 ghost use Rattle.chains.specs.Chains.{Again};
-ghost use Rattle.chains.specs.Table.{homeOf, Chained, Empty, Found, Linking, Tells, Entered};
+ghost use Rattle.chains.specs.Table.{homeOf, Chained, Empty, Found, Linking};
+ghost use Rattle.chains.specs.laws.Entering.{Tells, Entered};
 
 // What linking the writes gives: all are linked, or the first that asks again.
 pub enum Linked {

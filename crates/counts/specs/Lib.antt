@@ -1,9 +1,5 @@
--- Definitions.
+-- What has to be believed: definitions.
 pub mod Counts
--- Laws: what each plan adds, from one event to a run, and then the two counts of the paper and those of the bench sheet.
-pub mod Costing
-pub mod PlanCounts
-pub mod Runs
-pub mod InUse
-pub mod Requests
 pub mod Sheet
+-- What is proved of them.
+pub mod laws

@@ -1,2 +1,4 @@
--- That no other outcome fits a call.
-pub mod OnlyOne
+-- What has to be believed: definitions.
+pub mod Examples
+-- What is proved of them.
+pub mod laws

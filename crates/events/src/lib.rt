@@ -6,7 +6,7 @@ ghost use lib.Dec.{ltb};
 ghost use lib.Count.{ones};
 ghost use Rattle.number.specs.Value.{signedOf};
 ghost use Rattle.method.specs.About.{clientIn, clientOf};
-ghost use Rattle.rack.specs.Owed.{owedIn};
+ghost use Rattle.rack.specs.Sound.{owedIn};
 ghost use Rattle.rack.specs.Run.{byte, eventOf, inRack, slotOf, placeIn, freed, checked};
 use method::Event;
 use method::Held;

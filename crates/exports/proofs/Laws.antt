@@ -8,16 +8,18 @@ use native.Mathlib.Decide.{decLe}
 use lib.Dec.{eqb}
 use lib.ListN.{length, getD}
 use Rattle.number.specs.Number.{numberBytes, numberAt, putAnswer}
-use Rattle.number.specs.Laws.{length-few, put-fits, put-refused}
-use Rattle.number.specs.Trip.{written-read}
+use Rattle.number.specs.laws.NumberLaws.{length-few, put-fits, put-refused}
+use Rattle.number.specs.laws.Trip.{written-read}
 use Rattle.number.specs.declared.Number.the-variants.{Is}
 use Rattle.number.specs.declared.Put.the-variants.{Next}
 use Rattle.record.specs.Record.{Held, entries, fault, recordOf}
 use Rattle.rows.specs.Rows.{readOutcome, writeOutcome}
 use Rattle.record.specs.Below.{Bytes}
-use Rattle.record.specs.Trip.{reading-legal}
-use Rattle.record.specs.Refusals.{Named, record-faults}
-use Rattle.rows.specs.Refusals.{Refusal, read-refusals, write-refusals}
+use Rattle.record.specs.laws.Trip.{reading-legal}
+use Rattle.record.specs.Named.{Named}
+use Rattle.record.specs.laws.Refusals.{record-faults}
+use Rattle.rows.specs.Refusal.{Refusal}
+use Rattle.rows.specs.laws.Refusals.{read-refusals, write-refusals}
 use Rattle.record.specs.declared.Entry.{Entry}
 use Rattle.verdict.specs.Verdict.{repeats, distinctFrom, distinct, takenFor, Judges}
 use Rattle.verdict.specs.declared.Verdict.{Verdict}
@@ -25,12 +27,12 @@ use Rattle.verdict.specs.declared.Verdict.the-variants.{Lawful as saysLawful, U
 use Rattle.record.specs.declared.Answer.{Answer}
 use Rattle.record.specs.declared.Answer.the-variants.{All, Refused as Unread}
 use Rattle.rack.specs.Run.{madeOf, runOf}
-use Rattle.runs.specs.Steps.{run-steps}
+use Rattle.runs.specs.laws.Steps.{run-steps}
 use Rattle.layout.specs.declared.Answer.{Answer as Done}
 use Rattle.layout.specs.Layout.{wordCount}
 use Rattle.layout.specs.Reading.{rackOf}
 use Rattle.layout.specs.Calls.{unfit, makes, madeOutcome, leaves, runOutcome}
-use Rattle.exports.specs.Packed.{Small, Brief}
+use Rattle.exports.specs.laws.Small.{Small, Brief}
 
 -- the place after a number is at most five places further
 abbrev pub Near : ℕ → ℕ → Type 0

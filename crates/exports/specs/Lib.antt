@@ -1,4 +1,4 @@
--- Definitions.
+-- What has to be believed: definitions.
 pub mod Packed
--- Laws.
-pub mod OnlyOne
+-- What is proved of them.
+pub mod laws

@@ -1,5 +1,5 @@
 -- Answers packed into one number, for C: bits 0 to 31 a number, bits 32 to 39 the refusal, 0 for none, bits 40 to 47 a count of bytes.
-use Prim.Native.Nat.{ℕ, _+_, _-_, _*_, _^_, _<_}
+use Prim.Native.Nat.{ℕ, _+_, _-_, _*_, _^_}
 use mathlib.Core.Path.{_≡_}
 use mathlib.Core.List.{List}
 use Rattle.number.specs.declared.Number.{Number}
@@ -28,22 +28,11 @@ unfoldable pub packedAnswer : Answer → ℕ
 packedAnswer (All n) = n
 packedAnswer (Unread k n) = 2 ^ 32 * k + n
 
--- a refused entry's number fits its bits
-abbrev pub Small : Answer → Type 0
-Small (All n) = Unit {0}
-Small (Unread k n) = n < 2 ^ 32
-
 -- a verdict: 0 is lawful; one more than the lowest unlawful cell; the refusal and its entry's number
 unfoldable pub packedVerdict : Verdict → ℕ
 packedVerdict saysLawful = 0
 packedVerdict (saysUnlawful cell) = 2 ^ 40 * (cell .0 + 1)
 packedVerdict (saysRefused k n) = 2 ^ 32 * k + n
-
--- a refused entry's number fits its bits
-abbrev pub Brief : Verdict → Type 0
-Brief saysLawful = Unit {0}
-Brief (saysUnlawful cell) = Unit {0}
-Brief (saysRefused k n) = n < 2 ^ 32
 
 -- r is the packed verdict on the bytes s
 abbrev pub Judged : List ℕ → ℕ → Type 0

@@ -1,6 +1,5 @@
--- Words, Lines: the definitions. Sheet: worked examples. Fits: how long the lines are at most. OnlyOne: no other outcome fits a call.
+-- What has to be believed: definitions.
 pub mod Words
 pub mod Lines
-pub mod Sheet
-pub mod Fits
-pub mod OnlyOne
+-- What is proved of them.
+pub mod laws

@@ -21,7 +21,9 @@ use Rattle.rack.specs.declared.Sizes.{Sizes}
 use Rattle.rack.specs.declared.Rack.{Rack}
 use Rattle.rack.specs.declared.Ran.{Ran}
 use Rattle.rack.specs.Places.{slotLimit, partyAt, pairAt, heldAt, recordOf}
-use Rattle.lines.specs.Words.{doneStart, noneWord, byteWords, rackStart, replicaStart, clientStart, slotStart, recordStart, space, dot, equals, onWord, offWord, stoppedWord, idleWords, askingWord, keepingWord, readWord, writeWord, fromWord, fromNone, heldWord, heldNone, askWord, tellWord, keepWord, keptWord, pairWord, clientWord, replicaWord, cellWord, opWord}
+use Rattle.lines.specs.Words.{doneStart, noneWord, byteWords, rackStart, replicaStart, clientStart, slotStart, recordStart, space, dot, equals, onWord, offWord, stoppedWord}
+use Rattle.lines.specs.Words.{idleWords, askingWord, keepingWord, readWord, writeWord, fromWord, fromNone, heldWord, heldNone, askWord, tellWord, keepWord, keptWord}
+use Rattle.lines.specs.Words.{pairWord, clientWord, replicaWord, cellWord, opWord}
 
 -- ---- what lines are made of
 

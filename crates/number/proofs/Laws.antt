@@ -8,9 +8,9 @@ use lib.ListN.{drop, length, getD, set, length-set, drop-of-length-le}
 use lib.Seq.{drop-cons, sets}
 use borrow.Author.Tests.{lt-ltb, le-ltb}
 use Rattle.number.specs.Number.{groupsOf, numberBytes, Placed}
-use Rattle.number.specs.Steps.{readGo, push}
-use Rattle.number.specs.Trip.{read-below}
-use Rattle.number.specs.Laws.{top, groups-small, groups-more, groups-some, put-fits, put-writes, put-refused, put-keeps}
+use Rattle.number.specs.laws.Steps.{readGo, push}
+use Rattle.number.specs.laws.Trip.{read-below}
+use Rattle.number.specs.laws.NumberLaws.{top, groups-small, groups-more, groups-some, put-fits, put-writes, put-refused, put-keeps}
 use Rattle.number.specs.declared.Number.{Number}
 use Rattle.number.specs.declared.Number.the-variants.{Is, Refused}
 use Rattle.number.specs.declared.Put.the-variants.{Next, NoRoom}

@@ -3,7 +3,7 @@ ghost use mathlib.Core.Path.{_≡_};
 ghost use Prim.Native.Nat.{_+_, _≤_};
 ghost use lib.ListN.{length, drop};
 ghost use Rattle.number.specs.Number.{numberBytes, numberAt, Placed};
-ghost use Rattle.number.specs.Steps.{readGo};
+ghost use Rattle.number.specs.laws.Steps.{readGo};
 ghost use Rattle.number.specs.Value.{alternatingOf, signedOf};
 
 // What reading one number gives: the number and the place after it, or the refusal.

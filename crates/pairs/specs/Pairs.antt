@@ -13,6 +13,10 @@ use Rattle.record.specs.Record.{entries, recordOf, surveyOf}
 use Rattle.law.specs.Operation.{Op, operations}
 use Rattle.law.specs.Order.{In}
 
+-- the most bytes that 2,048 entries take, 8 each, and one more
+abbrev pub byteLimit : ℕ
+byteLimit = 16385
+
 -- entry p starts x: 0 a read, 1 a write with its value
 pub record StartsAt (kinds cells values starts : List ℕ) (x : Op) (p : ℕ) : Type 0 where
   pub kind : getD kinds p 0 ≡ cond (x .write) 1 0

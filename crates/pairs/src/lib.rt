@@ -3,7 +3,7 @@ ghost use mathlib.Core.Path.{_≡_};
 ghost use Prim.Native.Nat.{_<_, _≤_};
 ghost use Rattle.record.specs.Legal.{InRange};
 ghost use Rattle.pairs.specs.Pairs.{PairsUp};
-ghost use Rattle.pairs.specs.Noting.{Long, Low, startRow, endRow, rowOf, Noted};
+ghost use Rattle.pairs.specs.laws.Noting.{Long, Low, startRow, endRow, rowOf, Noted};
 use record::Answer;
 use record::Entry;
 use record::Found;

@@ -8,7 +8,7 @@ use Rattle.script.specs.declared.Words.the-variants.{Are, Refused}
 use Rattle.script.specs.Script.{scriptOf, eventsFrom, wordsOf}
 use Rattle.rack.specs.declared.Made.{Made}
 use Rattle.rack.specs.declared.Ran.{Ran}
-use Rattle.rack.specs.Fresh.{made-sound}
+use Rattle.rack.specs.laws.Fresh.{made-sound}
 use Rattle.rack.specs.Sound.{soundOf}
 use Rattle.rack.specs.Run.{madeOf, ranOf, runOf}
 use Rattle.lines.specs.Lines.{ranText, faultLine}

@@ -1,6 +1,5 @@
--- Play: the definitions. Parts: a script run in parts is the script run whole. Whole: how much memory takes its text. OnlyOne: no other outcome
--- fits a call.
+-- What has to be believed: definitions.
 pub mod Play
-pub mod Parts
-pub mod Whole
-pub mod OnlyOne
+pub mod Same
+-- What is proved of them.
+pub mod laws

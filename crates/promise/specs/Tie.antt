@@ -1,6 +1,8 @@
 -- The tie: which view of crate protocol stands for a rack, and what each message on its wire then means. An operation has the number of its start
 -- entry, as in the record.
 use Prim.Native.Nat.{ℕ, _≤_, _<_}
+use Rattle.rack.specs.declared.Rack.{Rack}
+use Rattle.protocol.specs.View.{View, Setting, Pair as Seen, Op}
 use mathlib.Core.Path.{_≡_}
 use mathlib.Core.Logic.{_≢_}
 use mathlib.Core.Bool.{Bool, true, false, cond}
@@ -23,14 +25,10 @@ use Rattle.method.specs.declared.Goal.{Goal}
 use Rattle.method.specs.declared.Goal.the-variants.{Read, Write}
 use Rattle.method.specs.declared.Work.{Work}
 use Rattle.method.specs.declared.Work.the-variants.{Idle, Asking, Keeping}
-use Rattle.rack.specs.declared.Rack.{Rack}
 use Rattle.rack.specs.Places.{partyAt, pairAt, heldAt, recordOf}
-use Rattle.protocol.specs.View.{Setting, Pair as Seen, Op, View}
 use Rattle.protocol.specs.Message.{Tell as Told, Keep as Chose, Kept as Has}
 use Rattle.protocol.specs.Move.{Reached}
 use Rattle.promise.specs.Setting.{settingOf}
-
--- ---- pairs and operations
 
 -- a pair as the view sees it
 abbrev pub pairOf : Pair → Seen
@@ -61,8 +59,6 @@ openWith phase o client cell goal set held =
 abbrev pub openAt : ℕ → ℕ → ℕ → Cell → Goal → ℕ → Pair → Op
 openAt phase o client cell goal set held = openWith phase o client cell goal set (pairOf held)
 
--- ---- clients
-
 -- operation i has ended if it is client c's and has begun
 abbrev pub Past : (ℕ → Op) → ℕ → ℕ → Type 0
 Past ops c i = ops i .call .client ≡ c → 1 ≤ ops i .phase → 3 ≤ ops i .phase
@@ -76,8 +72,6 @@ abbrev pub At : (ℕ → Op) → ℕ → ℕ → Work → Type 0
 At ops c o Idle = (i : ℕ) → Past ops c i
 At ops c o (Asking cell goal set held) = Stands ops c o (openAt 1 o c cell goal set held)
 At ops c o (Keeping cell goal set held) = Stands ops c o (openAt 2 o c cell goal set held)
-
--- ---- messages
 
 -- what a message between the client of operation o and replica k says, about cell x
 abbrev pub Means : Setting → View → ℕ → ℕ → ℕ → Body → Type 0
@@ -100,8 +94,6 @@ InSlot P (Full m) = P m
 abbrev pub opOf : Rack → ℕ → ℕ
 opOf r c = partyAt r c .op
 
--- ---- the record
-
 -- operation i as the record shows it
 abbrev pub shown : ℕ → Op → Operation
 shown i x =
@@ -121,8 +113,6 @@ pub record Book (ops : ℕ → Op) (s : List Operation) : Type 0 where
   pub begun : (x : Operation) → In x s → 1 ≤ ops (x .number) .phase
   pub known : (x : Operation) → In x s → x ≡ shown (x .number) (ops (x .number))
   pub every : (i : ℕ) → 1 ≤ ops i .phase → In (shown i (ops i)) s
-
--- ---- the tie
 
 -- the arrays have their lengths
 pub record Long (r : Rack) : Type 0 where
@@ -145,3 +135,19 @@ pub record Tie (r : Rack) (v : View) (name : ℕ → ℕ → ℕ) : Type 0 where
   pub wire : (i : ℕ) → InSlot (OnWire (settingOf (r .sizes .replicas)) v name (opOf r)) (heldAt r i)
   -- the record shows the operations
   pub book : Book (v .ops) (operations (recordOf r))
+
+-- some view stands for the rack
+pub record Tied (r : Rack) : Type 0 where
+  pub view : View
+  pub name : ℕ → ℕ → ℕ
+  pub tie : Tie r view name
+
+-- ---- pairs and operations
+
+-- ---- clients
+
+-- ---- messages
+
+-- ---- the record
+
+-- ---- the tie

@@ -8,9 +8,9 @@ use lib.Bits.{bitOr}
 use lib.Dec.{ltb}
 use lib.Pow.{shl-exact, pow-pos, pow-mono}
 use borrow.Author.Tests.{lt-ltb}
-use Rattle.slots.specs.Bits.{trailing-lt, trailing-room}
+use Rattle.slots.specs.laws.Bits.{trailing-lt, trailing-room}
 use Rattle.quorum.specs.Sets.{setBits, hasReplica, withReplica, everyReplica, within, withoutReplica, lowestOf, restOf}
-use Rattle.quorum.specs.Laws.{has-beyond, has-below, with-beyond, bit-at-most}
+use Rattle.quorum.specs.laws.SetLaws.{has-beyond, has-below, with-beyond, bit-at-most}
 
 pub one-shl : (k : ℕ) → k < 16 → 1 * 2 ^ k % 65536 ≡ 2 ^ k
 one-shl k h = shl-exact {a = 1} 1 k 16 (omega arith) (omega arith) ∙ one-mul _

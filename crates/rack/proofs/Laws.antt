@@ -7,9 +7,9 @@ use mathlib.Core.List.{List}
 use lib.ListN.{getD, length}
 use Rattle.method.specs.declared.Party.{Party}
 use Rattle.rack.specs.Places.{idle}
-use Rattle.rack.specs.Sound.{sizesFit, owedBy}
-use Rattle.rack.specs.SoundLaws.{sized}
-use Rattle.rack.specs.Owed.{owedIn, owed-beyond}
+use Rattle.rack.specs.Sound.{sizesFit, owedBy, owedIn}
+use Rattle.rack.specs.laws.SoundLaws.{sized}
+use Rattle.rack.specs.laws.Owed.{owed-beyond}
 
 -- ---- the loop over clients
 

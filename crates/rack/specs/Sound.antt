@@ -1,5 +1,9 @@
 -- A sound rack. The paper: "A state is unsound exactly when", part by part.
 use Prim.Native.Nat.{ℕ, zero, suc, _+_}
+use mathlib.Core.List.{List}
+use lib.ListN.{getD}
+use Rattle.method.specs.declared.Party.{Party}
+use Rattle.rack.specs.Places.{idle, slotLimit, partyAt, pairAt, heldAt}
 use mathlib.Core.Bool.{Bool, true, cond, not, _&&_, _||_}
 use lib.Dec.{ltb, leb, eqb}
 use Rattle.record.specs.declared.Cell.{Cell}
@@ -13,10 +17,23 @@ use Rattle.method.specs.declared.Held.{Held}
 use Rattle.method.specs.declared.Held.the-variants.{Empty, Full}
 use Rattle.method.specs.declared.Work.{Work}
 use Rattle.method.specs.declared.Work.the-variants.{Idle, Asking, Keeping}
-use Rattle.method.specs.declared.Party.{Party}
 use Rattle.rack.specs.declared.Sizes.{Sizes}
 use Rattle.rack.specs.declared.Rack.{Rack}
-use Rattle.rack.specs.Places.{slotLimit, partyAt, pairAt, heldAt}
+
+-- 1 for an open operation, 0 for none
+unfoldable pub owes : Work → ℕ
+owes Idle = 0
+owes (Asking cell goal set held) = 1
+owes (Keeping cell goal set held) = 1
+
+-- a client owes an answer for its open operation unless it is stopped
+unfoldable pub owedBy : Party → ℕ
+owedBy p = cond (p .stopped) 0 (owes (p .work))
+
+-- what the first n of some clients owe
+unfoldable pub owedIn : ℕ → List Party → ℕ
+owedIn zero ps = 0
+owedIn (suc n) ps = owedIn n ps + owedBy (getD ps n idle)
 
 -- each number below n
 unfoldable pub allBelow : ℕ → (ℕ → Bool) → Bool
@@ -66,16 +83,6 @@ unfoldable pub workFits : Sizes → Work → Bool
 workFits z Idle = true
 workFits z (Asking cell goal set held) = askFits z cell set held
 workFits z (Keeping cell goal set held) = keepFits z cell set held
-
--- 1 for an open operation, 0 for none
-unfoldable pub owes : Work → ℕ
-owes Idle = 0
-owes (Asking cell goal set held) = 1
-owes (Keeping cell goal set held) = 1
-
--- a client owes an answer for its open operation unless it is stopped
-unfoldable pub owedBy : Party → ℕ
-owedBy p = cond (p .stopped) 0 (owes (p .work))
 
 -- the answers owed by the clients below n
 unfoldable pub owedBelow : ℕ → Rack → ℕ

@@ -1,8 +1,7 @@
 // The answers that clients owe.
 ghost use mathlib.Core.Path.{_≡_};
 ghost use Prim.Native.Nat.{min, _≤_};
-ghost use Rattle.rack.specs.Owed.{owedIn};
-ghost use Rattle.rack.specs.Sound.{owes, owedBy};
+ghost use Rattle.rack.specs.Sound.{owedIn, owes, owedBy};
 use method::Party;
 use method::Work;
 

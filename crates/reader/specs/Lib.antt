@@ -1,4 +1,5 @@
--- Definitions. Head: the reading head. What an entry and a record are is defined in crate record.
+-- What has to be believed: definitions.
 pub mod Head
--- Laws. OnlyOne: no other outcome fits a call.
-pub mod OnlyOne
+pub mod Same
+-- What is proved of them.
+pub mod laws

@@ -9,8 +9,8 @@ use Rattle.record.specs.declared.Cell.{Cell}
 use Rattle.verdict.specs.declared.Verdict.{Verdict}
 use Rattle.verdict.specs.declared.Verdict.the-variants.{Lawful, Unlawful, Refused}
 use Rattle.text.specs.Text.{field, refusedWord, lineFeed, Printed}
-use Rattle.text.specs.Printing.{join}
-use Rattle.text.specs.Length.{digits-few}
+use Rattle.text.specs.laws.Printing.{join}
+use Rattle.text.specs.laws.Length.{digits-few}
 use Rattle.report.specs.Line.{lawfulLine, unlawfulWords, entryWords, lineOf}
 
 -- the line of each verdict, part by part

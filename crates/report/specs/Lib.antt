@@ -1,4 +1,5 @@
--- Definitions, and what holds of them.
+-- What has to be believed: definitions.
 pub mod Line
-pub mod Sheet
-pub mod OnlyOne
+pub mod Examples
+-- What is proved of them.
+pub mod laws

@@ -13,8 +13,8 @@ use Rattle.record.specs.Entry.{entryAt}
 use Rattle.record.specs.Record.{fresh, recordOf, Held, entries, fault, surveyOf}
 use Rattle.rows.specs.Row.{rowOf}
 use Rattle.rows.specs.Rows.{rowsOf, refused, readInto, readOutcome, Outcome}
-use Rattle.rows.specs.RowLaws.{row-length, rows-length}
-use Rattle.rows.specs.Storing.{Storable, Going, Next, step, same-going, finish, stored-fits, stored-short}
+use Rattle.rows.specs.laws.RowLaws.{row-length, rows-length}
+use Rattle.rows.specs.laws.Storing.{Storable, Going, Next, step, same-going, finish, stored-fits, stored-short}
 
 pub record Filling (s rows₀ : List ℕ) (n : ℕ) (rows : List ℕ) (at i : ℕ) : Type 0 where
   pub all : List Entry

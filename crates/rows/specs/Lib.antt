@@ -1,12 +1,8 @@
--- Definitions. Row: an entry as four numbers. Rows: a record in lent memory, the reader and the writer.
+-- What has to be believed: definitions.
 pub mod Row
 pub mod Rows
--- Laws. RowLaws and Storing serve the functions' proofs. RowTrip and Trip: what was written is read, and what is read was written, with lent memory too.
--- Refusals: which there are. Sheet: worked examples. OnlyOne: no other outcome fits a call.
-pub mod RowLaws
-pub mod Storing
-pub mod RowTrip
-pub mod Trip
-pub mod Refusals
-pub mod Sheet
-pub mod OnlyOne
+pub mod Examples
+pub mod Refusal
+pub mod Same
+-- What is proved of them.
+pub mod laws

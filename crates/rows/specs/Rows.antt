@@ -19,11 +19,6 @@ rowsOf es = allOf rowOf es
 unfoldable pub rowsHeld : List ℕ → Held
 rowsHeld ws = heldFrom (λ at. leb (at + 4) (length ws)) (rowAt ws) entryLimit 0 0 fresh
 
--- what rows hold, without memory for it: how many bytes it takes
-unfoldable pub measureOf : Held → Answer
-measureOf (entries es) = All (length (bytesOf es))
-measureOf (fault k n) = Refused k n
-
 -- what a call answers, and what then stands in the lent memory
 pub record Outcome : Type 0 where
   pub answer : Answer

@@ -6,7 +6,7 @@ ghost use lib.Seq.{sets};
 ghost use Rattle.record.specs.Record.{recordOf};
 ghost use Rattle.rows.specs.Row.{rowOf, roomAt, storedAt};
 ghost use Rattle.rows.specs.Rows.{readOutcome, Leaves};
-ghost use Rattle.rows.specs.Storing.{Storable};
+ghost use Rattle.rows.specs.laws.Storing.{Storable};
 use record::Answer;
 use record::Entry;
 use record::Found;

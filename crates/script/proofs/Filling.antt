@@ -7,7 +7,7 @@ use lib.ListN.{length}
 use lib.Seq.{sets, length-sets}
 use Rattle.script.specs.declared.Words.the-variants.{Are, Refused}
 use Rattle.script.specs.Script.{eventAt, Events, none, fault, eventsFrom, wordsUpTo, countUpTo, placeAfter, Fills}
-use Rattle.script.specs.Steps.{ends, faults, goes-on}
+use Rattle.script.specs.laws.Steps.{ends, faults, goes-on}
 
 -- nothing of n events from place at on is stored
 record Nothing (n at : ℕ) (es : Events) : Type 0 where

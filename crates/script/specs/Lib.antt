@@ -1,7 +1,7 @@
--- Script, Answers: the definitions. The others are laws over them: Steps goes on event by event; Sheet has worked examples, OnlyOne that no other
--- outcome fits a call.
+-- What has to be believed: definitions.
 pub mod Script
 pub mod Answers
-pub mod Steps
-pub mod Sheet
-pub mod OnlyOne
+pub mod Examples
+pub mod Same
+-- What is proved of them.
+pub mod laws

@@ -1,3 +1,4 @@
--- Sheet: the table of the starred lines. Shown: it holds.
+-- What has to be believed: definitions.
 pub mod Sheet
-pub mod Shown
+-- What is proved of them.
+pub mod laws

@@ -9,7 +9,7 @@ use Rattle.number.specs.Number.{numberBytes}
 use Rattle.number.specs.Value.{alternatingOf}
 use Rattle.record.specs.declared.Entry.{Entry}
 use Rattle.record.specs.Record.{entries, recordOf, bytesOf}
-use Rattle.law.specs.Sheet.{reads, writes, told, done}
+use Rattle.law.specs.Examples.{reads, writes, told, done}
 use Rattle.verdict.specs.declared.Verdict.{Verdict}
 use Rattle.verdict.specs.declared.Verdict.the-variants.{Lawful as saysLawful, Unlawful as saysUnlawful}
 use Rattle.verdict.specs.Verdict.{takenFor, Judges}

@@ -10,7 +10,7 @@ use lib.Seq.{take-suc, take-all}
 use lib.Dec.{ltb}
 use borrow.Author.Tests.{ltb-true, ltb-false}
 use Rattle.text.specs.Text.{hexText, Printed}
-use Rattle.text.specs.Printing.{nothing, join, same-text, hex-append}
+use Rattle.text.specs.laws.Printing.{nothing, join, same-text, hex-append}
 use Rattle.record.specs.Entry.{entryBytes}
 use Rattle.record.specs.Record.{allOf, bytesOf}
 use Rattle.rack.specs.declared.Line.{Line}

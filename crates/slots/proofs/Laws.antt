@@ -11,7 +11,7 @@ use lib.Count.{ones, trailingZeros}
 use lib.Pow.{shl-exact}
 use Rattle.slots.specs.Free.{wordCount, slotCount, firstFree, countFrom, givenAt, markedAt}
 use Rattle.slots.specs.Words.{Tied, Took}
-use Rattle.slots.specs.Finding.{Passed, Here, here-of, pass-all, tied-taken, tied-given, taken-past, count-word}
+use Rattle.slots.specs.laws.Finding.{Passed, Here, here-of, pass-all, tied-taken, tied-given, taken-past, count-word}
 
 pub one-shl : (k : ℕ) → k < 64 → 1 * 2 ^ k % 18446744073709551616 ≡ 2 ^ k
 one-shl k h = shl-exact {a = 1} 1 k 64 (omega arith) (omega arith) ∙ one-mul _

@@ -1,10 +1,19 @@
 -- Words of 64 bits, lowest first, that say which slots are free.
-use Prim.Native.Nat.{ℕ, zero, suc, _+_, _*_, _<_}
+use Prim.Native.Nat.{ℕ, _/_, _%_, _^_, zero, suc, _+_, _*_, _<_}
 use mathlib.Core.Bool.{Bool}
+use lib.Dec.{eqb}
 use mathlib.Core.List.{List}
+use lib.ListN.{getD, length}
 use mathlib.Core.Path.{_≡_}
-use lib.ListN.{length, getD}
 use Rattle.slots.specs.Free.{wordCount, digit, firstFree, takenAt}
+
+-- bit k of a number
+unfoldable pub bitAt : ℕ → ℕ → Bool
+bitAt x k = eqb (x / 2 ^ k % 2) 1
+
+-- the slots that words say are free
+unfoldable pub freeIn : List ℕ → ℕ → Bool
+freeIn ws i = bitAt (getD ws (i / 64) 0) (i % 64)
 
 -- the number whose n bits, lowest first, say which of the n slots from b on are free
 unfoldable pub bitsFrom : ℕ → ℕ → (ℕ → Bool) → ℕ

@@ -6,8 +6,8 @@ use native.Mathlib.Omega.{arith}
 use lib.Dec.{leb}
 use borrow.Author.Tests.{lt-leb}
 use Rattle.rack.specs.declared.Rack.{Rack}
-use Rattle.rack.specs.Sound.{allBelow, owed, recordFits}
-use Rattle.rack.specs.Owed.{owedIn, owed-in}
+use Rattle.rack.specs.Sound.{allBelow, owed, recordFits, owedIn}
+use Rattle.rack.specs.laws.Owed.{owed-in}
 
 -- ---- loops
 

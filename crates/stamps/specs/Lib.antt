@@ -1,6 +1,6 @@
--- Definitions.
+-- What has to be believed: definitions.
 pub mod Stamp
--- Laws.
 pub mod StampOrder
--- No other outcome fits a call.
-pub mod OnlyOne
+pub mod Examples
+-- What is proved of them.
+pub mod laws

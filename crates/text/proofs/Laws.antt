@@ -10,11 +10,11 @@ use lib.IntN.{ℤ, pos, negsuc}
 use borrow.Author.Tests.{lt-ltb, le-ltb}
 use Rattle.number.specs.Value.{alternatingOf}
 use Rattle.number.specs.Number.{numberBytes, Placed}
-use Rattle.number.specs.Laws.{length-few, put-fits, put-writes}
+use Rattle.number.specs.laws.NumberLaws.{length-few, put-fits, put-writes}
 use Rattle.number.specs.declared.Put.{Put}
 use Rattle.number.specs.declared.Put.the-variants.{Next, NoRoom}
 use Rattle.text.specs.Text.{digitsOf, decimal, valueText, hexByte, hexText, Printed}
-use Rattle.text.specs.Printing.{nothing, join, same-text, hex-append}
+use Rattle.text.specs.laws.Printing.{nothing, join, same-text, hex-append}
 
 -- ---- words and bytes in hex, the next after the first i
 

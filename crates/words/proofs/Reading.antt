@@ -9,9 +9,9 @@ use lib.ListN.{length, set, drop, length-append, length-drop, drop-of-length-le,
 use lib.Seq.{drop-cons, set-at, append-snoc}
 use borrow.Author.Tests.{lt-ltb, le-ltb, ltb-true}
 use Rattle.rack.specs.Sound.{allBelow}
-use Rattle.method.specs.Tests.{and-left, and-right}
+use Rattle.method.specs.laws.Tests.{and-left, and-right}
 use Rattle.layout.specs.Layout.{entryPlace, word, firsts}
-use Rattle.layout.specs.Firsts.{firsts-long}
+use Rattle.layout.specs.laws.Firsts.{firsts-long}
 use Rattle.layout.specs.Reading.{partyKnown, messageKnown, lineKnown, countOf, countIn}
 
 -- the first i places of the list l are read, and the others are those of xs

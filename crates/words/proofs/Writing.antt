@@ -14,9 +14,10 @@ use Rattle.method.specs.declared.Party.{Party}
 use Rattle.rack.specs.declared.Rack.{Rack}
 use Rattle.method.specs.declared.Work.{Work}
 use Rattle.method.specs.declared.Work.the-variants.{Asking, Keeping}
-use Rattle.layout.specs.PlaceLaws.{first-long}
-use Rattle.layout.specs.Trip.{open-long}
-use Rattle.layout.specs.Writing.{pairWords, openWords, toldWords, workWords, flag, partyWords, bodyKind, bodyWords, slotWords, putFirsts, headOf, partiesPut, pairsPut, wirePut, recordPut, writtenOf}
+use Rattle.layout.specs.laws.PlaceLaws.{first-long}
+use Rattle.layout.specs.laws.Trip.{open-long}
+use Rattle.layout.specs.Writing.{pairWords, openWords, toldWords, workWords, flag, partyWords, bodyKind, bodyWords, slotWords, putFirsts, headOf, partiesPut, pairsPut, wirePut}
+use Rattle.layout.specs.Writing.{recordPut, writtenOf}
 
 -- some and then some more
 pub sets-more : (d : List ℕ) (at : ℕ) (xs ys : List ℕ) → sets (sets d at xs) (at + length xs) ys ≡ sets d at (xs ++ ys)

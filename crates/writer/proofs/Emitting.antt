@@ -12,9 +12,9 @@ use Rattle.record.specs.declared.Answer.the-variants.{All, Refused}
 use Rattle.record.specs.Entry.{entryBytes}
 use Rattle.record.specs.Record.{fresh, Held, entries, fault, bytesOf}
 use Rattle.rows.specs.Row.{rowAt}
-use Rattle.rows.specs.Rows.{rowsHeld, measureOf, refused, writeInto, writeOutcome, Outcome}
-use Rattle.rows.specs.RowLaws.{row-next, more-rows, no-more-rows}
-use Rattle.rows.specs.Storing.{Writable, Going, Next, step, some-left, none-left, same-going, finish, stored-fits, stored-short}
+use Rattle.rows.specs.Rows.{rowsHeld, refused, writeInto, writeOutcome, Outcome}
+use Rattle.rows.specs.laws.Storing.{measureOf, Writable, Going, Next, step, some-left, none-left, same-going, finish, stored-fits, stored-short}
+use Rattle.rows.specs.laws.RowLaws.{row-next, more-rows, no-more-rows}
 use Rattle.number.specs.Wrote.{Wrote}
 
 pub record Emitting (rows bytes₀ bytes : List ℕ) (n out : ℕ) : Type 0 where

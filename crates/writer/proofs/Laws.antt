@@ -7,7 +7,7 @@ use native.Mathlib.Omega.{arith}
 use lib.IntN.{ℤ}
 use Rattle.number.specs.Value.{alternatingOf}
 use Rattle.number.specs.Number.{numberBytes, Placed}
-use Rattle.number.specs.Laws.{put-fits, put-writes}
+use Rattle.number.specs.laws.NumberLaws.{put-fits, put-writes}
 use Rattle.number.specs.declared.Put.{Put}
 use Rattle.number.specs.declared.Put.the-variants.{Next, NoRoom}
 use Rattle.record.specs.declared.Client.{Client}

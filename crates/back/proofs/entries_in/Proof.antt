@@ -3,7 +3,7 @@ use native.Mathlib.Omega.{arith}
 use borrow.Author.Needs.{needs}
 use mathlib.Core.Path.{_≡_}
 use lib.ListN.{length}
-use Rattle.back.specs.Lines.{n-beyond}
+use Rattle.back.specs.laws.Lines.{n-beyond}
 use Rattle.back.proofs.entries_in.Statement.{statement}
 use Rattle.back.proofs.entries_in.Tie as tie
 

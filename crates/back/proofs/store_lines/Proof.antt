@@ -1,7 +1,7 @@
 -- `back::store_lines` meets its contract. The invariant: the rows of the first i lines are stored. Assumes nothing.
 use Prim.Native.Nat.{_-_}
 use borrow.Author.Needs.{needs}
-use Rattle.back.specs.Lines.{Stored, stored-none, stored-long, stored-next, stored-all}
+use Rattle.back.specs.laws.Lines.{Stored, stored-none, stored-long, stored-next, stored-all}
 use Rattle.back.proofs.store_lines.Statement.{statement}
 use Rattle.back.proofs.store_lines.Tie as tie
 

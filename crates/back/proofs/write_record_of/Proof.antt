@@ -1,7 +1,7 @@
 -- `back::write_record_of` meets its contract. Assumes nothing.
 use native.Mathlib.Omega.{arith}
 use borrow.Author.Needs.{needs}
-use Rattle.back.specs.Lines.{lined-long, lined-writes}
+use Rattle.back.specs.laws.Lines.{lined-long, lined-writes}
 use Rattle.back.proofs.write_record_of.Statement.{statement}
 use Rattle.back.proofs.write_record_of.Tie as tie
 

@@ -1,6 +1,6 @@
 -- `chains::asks_again` meets its contract: a write of 0 asks again, and else the search of what came before decides. Assumes nothing.
 use mathlib.Core.Path.{refl}
-use Rattle.chains.specs.Laws.{zero-again}
+use Rattle.chains.specs.laws.TableLaws.{zero-again}
 use Rattle.chains.proofs.Entering.{tells-yes, tells-no, again-found, again-not}
 use borrow.Author.Needs.{needs}
 use Rattle.chains.proofs.asks_again.Statement.{statement}

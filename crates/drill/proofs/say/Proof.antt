@@ -2,7 +2,7 @@
 use mathlib.Core.Path.{sym}
 use native.Mathlib.Omega.{arith}
 use lib.Seq.{length-take-le}
-use Rattle.text.specs.Printing.{printed-length}
+use Rattle.text.specs.laws.Printing.{printed-length}
 use borrow.Author.Needs.{needs}
 use Rattle.drill.proofs.say.Statement.{statement}
 use Rattle.drill.proofs.say.Tie as tie

@@ -3,7 +3,7 @@ use native.Mathlib.Omega.{arith}
 use borrow.Author.Needs.{needs}
 use borrow.Author.Tests.{lt-ltb, le-ltb}
 use Rattle.rack.specs.Run.{byte}
-use Rattle.number.specs.ValueLaws.{signed-of-bits}
+use Rattle.number.specs.laws.ValueLaws.{signed-of-bits}
 use Rattle.events.proofs.start_write.Statement.{statement}
 use Rattle.events.proofs.start_write.Tie as tie
 

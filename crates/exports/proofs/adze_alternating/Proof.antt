@@ -1,6 +1,6 @@
 -- `exports::adze_alternating` meets its contract. Assumes nothing.
 use mathlib.Core.Path.{sym}
-use Rattle.number.specs.ValueLaws.{alternating-of-bits}
+use Rattle.number.specs.laws.ValueLaws.{alternating-of-bits}
 use borrow.Author.Needs.{needs}
 use Rattle.exports.proofs.adze_alternating.Statement.{statement}
 use Rattle.exports.proofs.adze_alternating.Tie as tie

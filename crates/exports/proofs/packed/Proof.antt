@@ -1,7 +1,8 @@
 -- `exports::packed` meets its contract. Assumes nothing.
 use mathlib.Core.Path.{sym, ap, subst}
 use native.Mathlib.Omega.{arith}
-use Rattle.exports.specs.Packed.{packedAnswer, Small}
+use Rattle.exports.specs.Packed.{packedAnswer}
+use Rattle.exports.specs.laws.Small.{Small}
 use borrow.Author.Needs.{needs}
 use Rattle.exports.proofs.packed.Statement.{statement}
 use Rattle.exports.proofs.packed.Tie as tie

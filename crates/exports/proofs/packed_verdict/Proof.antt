@@ -1,7 +1,8 @@
 -- `exports::packed_verdict` meets its contract. Assumes nothing.
 use mathlib.Core.Path.{sym, ap, subst}
 use native.Mathlib.Omega.{arith}
-use Rattle.exports.specs.Packed.{packedVerdict, Brief}
+use Rattle.exports.specs.Packed.{packedVerdict}
+use Rattle.exports.specs.laws.Small.{Brief}
 use borrow.Author.Needs.{needs}
 use Rattle.exports.proofs.packed_verdict.Statement.{statement}
 use Rattle.exports.proofs.packed_verdict.Tie as tie

@@ -2,7 +2,7 @@
 use mathlib.Core.Path.{sym}
 use native.Mathlib.Omega.{arith}
 use lib.Seq.{length-take-le}
-use Rattle.number.specs.Wrote.{wrote-length}
+use Rattle.number.specs.laws.WroteLaws.{wrote-length}
 use borrow.Author.Needs.{needs}
 use Rattle.judge.proofs.say.Statement.{statement}
 use Rattle.judge.proofs.say.Tie as tie

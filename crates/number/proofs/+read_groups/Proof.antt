@@ -4,7 +4,7 @@ use Prim.Native.Nat.{ℕ, _-_, _+_, _^_, _<_}
 use mathlib.Core.Path.{sym, _∙_}
 use native.Mathlib.Omega.{arith}
 use borrow.Author.Needs.{needs}
-use Rattle.number.specs.Steps.{push, push-zero, push-more}
+use Rattle.number.specs.laws.Steps.{push, push-zero, push-more}
 use Rattle.number.proofs.Laws.{at-end, fifth-high, fifth, low, high, rest-below}
 use borrow.Fn.Kinds.{In}
 use borrow.Fn.PlainCycle.{Measures, is, falls, and}

@@ -1,7 +1,7 @@
 -- `number::read_number` meets its contract: reading byte by byte, as its helper does, is reading. Assumes nothing.
 use mathlib.Core.Path.{_∙_}
 use borrow.Author.Needs.{needs}
-use Rattle.number.specs.Steps.{read-steps}
+use Rattle.number.specs.laws.Steps.{read-steps}
 use Rattle.number.proofs.read_number.Statement.{statement}
 use Rattle.number.proofs.read_number.Tie as tie
 

@@ -5,7 +5,7 @@ use native.Mathlib.Omega.{arith}
 use borrow.Author.Needs.{needs}
 use lib.ListN.{length-set}
 use Rattle.number.specs.Number.{numberBytes}
-use Rattle.number.specs.Laws.{top, length-some}
+use Rattle.number.specs.laws.NumberLaws.{top, length-some}
 use Rattle.number.proofs.Laws.{WritesOn, step, finish, places}
 use Rattle.number.proofs.write_groups.Statement.{statement}
 use Rattle.number.proofs.write_groups.Tie as tie

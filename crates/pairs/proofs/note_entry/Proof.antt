@@ -1,7 +1,7 @@
 -- `pairs::note_entry` meets its contract. Assumes nothing.
 use mathlib.Core.Path.{refl, sym}
 use native.Mathlib.Omega.{arith}
-use Rattle.pairs.specs.Pairing.{row-client}
+use Rattle.pairs.specs.laws.Pairing.{row-client}
 use borrow.Author.Needs.{needs}
 use Rattle.pairs.proofs.note_entry.Statement.{statement}
 use Rattle.pairs.proofs.note_entry.Tie as tie

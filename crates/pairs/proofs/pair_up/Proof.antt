@@ -4,8 +4,8 @@ use Prim.Native.Nat.{_-_}
 use mathlib.Core.Path.{sym, _∙_}
 use borrow.Author.Needs.{needs}
 use borrow.Author.Tests.{lt-ltb, le-ltb}
-use Rattle.record.specs.EntryTrip.{written-entry}
-use Rattle.pairs.specs.Pairing.{Pairing, pairs-none, pairs-full, pairs-unread, pairs-misplaced, pairs-few, pairs-end, pairs-on}
+use Rattle.record.specs.laws.EntryTrip.{written-entry}
+use Rattle.pairs.specs.laws.Pairing.{Pairing, pairs-none, pairs-full, pairs-unread, pairs-misplaced, pairs-few, pairs-end, pairs-on}
 use Rattle.pairs.proofs.pair_up.Statement.{statement}
 use Rattle.pairs.proofs.pair_up.Tie as tie
 

@@ -1,6 +1,6 @@
 -- `pairs::row_of` meets its contract, each kind of entry by itself. Assumes nothing.
 use Rattle.pairs.proofs.Laws.{told-client, done-client}
-use Rattle.number.specs.ValueLaws.{alternating-of-bits}
+use Rattle.number.specs.laws.ValueLaws.{alternating-of-bits}
 use borrow.Author.Needs.{needs}
 use Rattle.pairs.proofs.row_of.Statement.{statement}
 use Rattle.pairs.proofs.row_of.Tie as tie

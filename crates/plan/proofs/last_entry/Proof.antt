@@ -3,7 +3,6 @@ use borrow.Author.Needs.{needs, sfits-of}
 use mir.Facts.{toZ-ofZ}
 use mir.Syntax.{w32}
 use Rattle.method.specs.Plan.{lastEntry}
-use borrow.Author.Needs.{needs}
 use Rattle.plan.proofs.last_entry.Statement.{statement}
 use Rattle.plan.proofs.last_entry.Tie as tie
 

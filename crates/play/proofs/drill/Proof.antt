@@ -1,6 +1,6 @@
 -- `play::drill` meets its contract. Assumes nothing.
 use mathlib.Core.Path.{sym, _∙_}
-use Rattle.text.specs.Printing.{same-text}
+use Rattle.text.specs.laws.Printing.{same-text}
 use Rattle.play.proofs.Laws.{fault-text, run-text}
 use borrow.Author.Needs.{needs}
 use Rattle.play.proofs.drill.Statement.{statement}

@@ -1,5 +1,5 @@
 use mathlib.Core.Path.{_≡_, refl, sym, _∙_}
-use Rattle.play.specs.Parts.{Playing, begins, all-used, none-found, stopped, went-on, few-done, still-long}
+use Rattle.play.specs.laws.Parts.{Playing, begins, all-used, none-found, stopped, went-on, few-done, still-long}
 -- `play::play_events` meets its contract: what is left to run gives the whole. The measure is how many events are still allowed. Assumes nothing.
 use Prim.Native.Nat.{_-_}
 use native.Mathlib.Omega.{arith}

@@ -1,6 +1,6 @@
 -- The run is the definition's, so the promise holds of it.
 use borrow.Author.Needs.{needs}
-use Rattle.promise.specs.Promise.{promise}
+use Rattle.promise.specs.laws.Promise.{promise}
 use Rattle.promise.proofs.run_fresh.Statement.{statement}
 use Rattle.promise.proofs.run_fresh.Tie as tie
 

@@ -2,7 +2,7 @@
 use mathlib.Core.Path.{sym, _∙_}
 use native.Mathlib.Omega.{arith}
 use Rattle.record.specs.Entry.{andThen, entryAt}
-use Rattle.record.specs.EntryTrip.{passed}
+use Rattle.record.specs.laws.EntryTrip.{passed}
 use borrow.Author.Needs.{needs}
 use Rattle.reader.proofs.read_entry.Statement.{statement}
 use Rattle.reader.proofs.read_entry.Tie as tie

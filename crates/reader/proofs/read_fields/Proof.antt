@@ -3,8 +3,8 @@ use mathlib.Core.Path.{sym, _∙_}
 use native.Mathlib.Omega.{arith}
 use borrow.Author.Tests.{eq-eqb, ne-eqb}
 use Rattle.record.specs.Entry.{andThen, fieldsAt}
-use Rattle.record.specs.EntryTrip.{passed}
-use Rattle.number.specs.ValueLaws.{signed-of-bits}
+use Rattle.record.specs.laws.EntryTrip.{passed}
+use Rattle.number.specs.laws.ValueLaws.{signed-of-bits}
 use borrow.Author.Needs.{needs}
 use Rattle.reader.proofs.read_fields.Statement.{statement}
 use Rattle.reader.proofs.read_fields.Tie as tie

@@ -8,7 +8,7 @@ use borrow.Author.Needs.{needs}
 use borrow.Author.Tests.{lt-ltb, le-ltb}
 use Rattle.record.specs.Entry.{entryAt}
 use Rattle.record.specs.Record.{recordOf}
-use Rattle.record.specs.Steps.{Counting, survey-tally, counts-end, counts-full, counts-unread, counts-misplaced, counts-on}
+use Rattle.record.specs.laws.Steps.{Counting, survey-tally, counts-end, counts-full, counts-unread, counts-misplaced, counts-on}
 use Rattle.reader.proofs.survey.Statement.{statement}
 use Rattle.reader.proofs.survey.Tie as tie
 

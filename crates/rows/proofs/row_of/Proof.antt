@@ -1,6 +1,6 @@
 -- `rows::row_of` meets its contract. Assumes nothing.
 use Rattle.rows.specs.Row.{rowOf}
-use Rattle.number.specs.ValueLaws.{alternating-of-bits}
+use Rattle.number.specs.laws.ValueLaws.{alternating-of-bits}
 use borrow.Author.Needs.{needs}
 use Rattle.rows.proofs.row_of.Statement.{statement}
 use Rattle.rows.proofs.row_of.Tie as tie

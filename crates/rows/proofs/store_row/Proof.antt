@@ -3,7 +3,7 @@ use mathlib.Core.Path.{ap, sym, _∙_}
 use lib.Seq.{sets}
 use native.Mathlib.Omega.{arith}
 use borrow.Author.Needs.{needs}
-use Rattle.rows.specs.RowLaws.{room-in, stored-in, room-out, stored-out}
+use Rattle.rows.specs.laws.RowLaws.{room-in, stored-in, room-out, stored-out}
 use Rattle.rows.proofs.store_row.Statement.{statement}
 use Rattle.rows.proofs.store_row.Tie as tie
 

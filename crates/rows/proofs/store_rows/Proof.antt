@@ -4,7 +4,7 @@ use Prim.Native.Nat.{_-_}
 use mathlib.Core.Path.{sym, _∙_}
 use native.Mathlib.Omega.{arith}
 use borrow.Author.Needs.{needs}
-use Rattle.rows.specs.RowLaws.{stored-in}
+use Rattle.rows.specs.laws.RowLaws.{stored-in}
 use Rattle.rows.proofs.Filling.{Filling, fills, fills-room, fills-entry, fills-on, fills-long, fills-end}
 use Rattle.rows.proofs.store_rows.Statement.{statement}
 use Rattle.rows.proofs.store_rows.Tie as tie

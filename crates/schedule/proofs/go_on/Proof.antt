@@ -5,9 +5,10 @@ use Prim.Native.Nat.{_-_, _<_, _≤_}
 use mathlib.Core.Path.{refl, sym, _∙_}
 use native.Mathlib.Omega.{arith}
 use lib.ListN.{length}
-use Rattle.quorum.specs.Lowest.{rest-less}
-use Rattle.runs.specs.Sending.{sending-place, sending-more}
-use Rattle.runs.specs.Loop.{Most, Going, going-start, going-out, going-no, not-there, there-slot, there, going-plan, room-fits, going-send, going-entry, going-on, Shipping, shipping-more, shipping-end, entry-place, asked-one, ended-one, turned-none, turned-asked, turned-ended}
+use Rattle.quorum.specs.laws.LowestMember.{rest-less}
+use Rattle.runs.specs.laws.Sending.{sending-place, sending-more}
+use Rattle.runs.specs.laws.Loop.{Most, Going, going-start, going-out, going-no, not-there, there-slot, there, going-plan, room-fits, going-send, going-entry, going-on, Shipping}
+use Rattle.runs.specs.laws.Loop.{shipping-more, shipping-end, entry-place, asked-one, ended-one, turned-none, turned-asked, turned-ended}
 use Rattle.schedule.proofs.go_on.Statement.{statement}
 use Rattle.schedule.proofs.go_on.Tie as tie
 

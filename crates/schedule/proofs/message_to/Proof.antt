@@ -1,5 +1,5 @@
 use mathlib.Core.Path.{refl}
-use Rattle.runs.specs.Sending.{messageTo}
+use Rattle.runs.specs.laws.Sending.{messageTo}
 use Rattle.schedule.proofs.message_to.Statement.{statement}
 use Rattle.schedule.proofs.message_to.Tie as tie
 

@@ -1,4 +1,4 @@
-use Rattle.runs.specs.Sending.{slotAfter}
+use Rattle.runs.specs.laws.Sending.{slotAfter}
 use Rattle.schedule.proofs.slot_after.Statement.{statement}
 use Rattle.schedule.proofs.slot_after.Tie as tie
 

@@ -2,9 +2,9 @@
 use Prim.Native.Nat.{_-_, _≤_}
 use borrow.Author.Needs.{needs}
 use Rattle.slots.specs.Words.{Tied}
-use Rattle.slots.specs.Upto.{upTo, upto-start}
+use Rattle.slots.specs.laws.UpTo.{upTo, upto-start}
 use Rattle.rack.specs.Places.{freeAt, roomOf}
-use Rattle.runs.specs.Sending.{map-next, map-all}
+use Rattle.runs.specs.laws.Sending.{map-next, map-all}
 use Rattle.schedule.proofs.start_of.Statement.{statement}
 use Rattle.schedule.proofs.start_of.Tie as tie
 

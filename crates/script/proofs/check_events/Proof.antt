@@ -1,5 +1,5 @@
 -- `script::check_events` meets its contract. The invariant: the first fault from here on is the first fault. The measure is how many bytes are left.
-use Rattle.script.specs.Steps.{event-rises, no-fault, fault-here, fault-later}
+use Rattle.script.specs.laws.Steps.{event-rises, no-fault, fault-here, fault-later}
 -- `script::check_events` meets its contract. The invariant: the first fault from here on is the first fault. The measure is how many bytes are left.
 use Prim.Native.Nat.{_-_}
 use mathlib.Core.Path.{_≡_, refl, sym, _∙_}

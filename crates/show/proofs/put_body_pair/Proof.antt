@@ -1,7 +1,7 @@
 -- `show::put_body_pair` meets its contract. Assumes nothing.
 use mathlib.Core.Path.{sym, ap}
 use borrow.Author.Needs.{needs}
-use Rattle.text.specs.Printing.{nothing, same-text}
+use Rattle.text.specs.laws.Printing.{nothing, same-text}
 use Rattle.lines.specs.Lines.{bodyPair}
 use Rattle.show.proofs.put_body_pair.Statement.{statement}
 use Rattle.show.proofs.put_body_pair.Tie as tie

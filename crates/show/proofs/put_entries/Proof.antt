@@ -5,7 +5,7 @@ use native.Mathlib.Omega.{arith}
 use lib.ListN.{take}
 use borrow.Author.Needs.{needs}
 use Rattle.text.specs.Text.{hexText, Printed}
-use Rattle.text.specs.Printing.{printed-length}
+use Rattle.text.specs.laws.Printing.{printed-length}
 use Rattle.record.specs.Record.{bytesOf}
 use Rattle.rack.specs.declared.Line.{Line}
 use Rattle.show.proofs.Laws.{no-entry, next-entry, all-entries}

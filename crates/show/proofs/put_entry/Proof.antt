@@ -1,7 +1,7 @@
 -- `show::put_entry` meets its contract. Assumes nothing.
 use borrow.Author.Needs.{needs}
 use Rattle.record.specs.Entry.{entryBytes}
-use Rattle.number.specs.ValueLaws.{alternating-of-bits}
+use Rattle.number.specs.laws.ValueLaws.{alternating-of-bits}
 use Rattle.show.proofs.put_entry.Statement.{statement}
 use Rattle.show.proofs.put_entry.Tie as tie
 

@@ -1,6 +1,6 @@
 -- `show::put_fault` meets its contract. Assumes nothing.
 use borrow.Author.Needs.{needs}
-use Rattle.text.specs.Printing.{join}
+use Rattle.text.specs.laws.Printing.{join}
 use Rattle.lines.specs.Lines.{faultLine}
 use Rattle.show.proofs.put_fault.Statement.{statement}
 use Rattle.show.proofs.put_fault.Tie as tie

@@ -1,6 +1,6 @@
 -- `show::put_four` meets its contract. Assumes nothing.
 use borrow.Author.Needs.{needs}
-use Rattle.text.specs.Printing.{join, same-text, hex-append}
+use Rattle.text.specs.laws.Printing.{join, same-text, hex-append}
 use Rattle.show.proofs.put_four.Statement.{statement}
 use Rattle.show.proofs.put_four.Tie as tie
 

@@ -2,9 +2,9 @@
 use mathlib.Core.Path.{sym, ap}
 use borrow.Author.Needs.{needs}
 use Rattle.text.specs.Text.{valueText}
-use Rattle.text.specs.Printing.{join, same-text}
+use Rattle.text.specs.laws.Printing.{join, same-text}
 use Rattle.lines.specs.Lines.{goalText}
-use Rattle.number.specs.ValueLaws.{value-of-bits}
+use Rattle.number.specs.laws.ValueLaws.{value-of-bits}
 use Rattle.show.proofs.put_goal.Statement.{statement}
 use Rattle.show.proofs.put_goal.Tie as tie
 

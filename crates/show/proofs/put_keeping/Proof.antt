@@ -1,6 +1,6 @@
 -- `show::put_keeping` meets its contract. Assumes nothing.
 use borrow.Author.Needs.{needs}
-use Rattle.text.specs.Printing.{join}
+use Rattle.text.specs.laws.Printing.{join}
 use Rattle.show.proofs.put_keeping.Statement.{statement}
 use Rattle.show.proofs.put_keeping.Tie as tie
 

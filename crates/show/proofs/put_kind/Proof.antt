@@ -1,7 +1,7 @@
 -- `show::put_kind` meets its contract. Assumes nothing.
 use mathlib.Core.Path.{sym, ap}
 use borrow.Author.Needs.{needs}
-use Rattle.text.specs.Printing.{same-text}
+use Rattle.text.specs.laws.Printing.{same-text}
 use Rattle.lines.specs.Lines.{kindText}
 use Rattle.show.proofs.put_kind.Statement.{statement}
 use Rattle.show.proofs.put_kind.Tie as tie

@@ -1,7 +1,7 @@
 -- `show::put_member` meets its contract. Assumes nothing.
 use mathlib.Core.Path.{sym, _∙_}
 use borrow.Author.Needs.{needs}
-use Rattle.text.specs.Printing.{nothing}
+use Rattle.text.specs.laws.Printing.{nothing}
 use Rattle.show.proofs.put_member.Statement.{statement}
 use Rattle.show.proofs.put_member.Tie as tie
 

@@ -4,7 +4,7 @@ use borrow.Author.Needs.{needs}
 use borrow.Author.Tests.{eq-eqb, ne-eqb}
 use Rattle.quorum.specs.Sets.{setBits}
 use Rattle.text.specs.Text.{Printed}
-use Rattle.text.specs.Printing.{printed-length}
+use Rattle.text.specs.laws.Printing.{printed-length}
 use Rattle.show.proofs.Laws.{each-none, each-next, each-all}
 use Rattle.lines.specs.Lines.{eachBelow, memberText}
 use Rattle.show.proofs.put_members.Statement.{statement}

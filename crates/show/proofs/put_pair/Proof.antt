@@ -2,8 +2,8 @@
 use mathlib.Core.Path.{ap}
 use borrow.Author.Needs.{needs}
 use Rattle.text.specs.Text.{valueText}
-use Rattle.text.specs.Printing.{join, same-text}
-use Rattle.number.specs.ValueLaws.{value-of-bits}
+use Rattle.text.specs.laws.Printing.{join, same-text}
+use Rattle.number.specs.laws.ValueLaws.{value-of-bits}
 use Rattle.show.proofs.put_pair.Statement.{statement}
 use Rattle.show.proofs.put_pair.Tie as tie
 

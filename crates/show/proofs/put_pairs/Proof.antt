@@ -4,7 +4,7 @@ use mathlib.Core.List.{_++_}
 use lib.ListN.{getD}
 use borrow.Author.Needs.{needs}
 use Rattle.text.specs.Text.{Printed}
-use Rattle.text.specs.Printing.{printed-length}
+use Rattle.text.specs.laws.Printing.{printed-length}
 use Rattle.show.proofs.Laws.{each-none, each-next, each-all}
 use Rattle.stamps.specs.Stamp.{freshPair}
 use Rattle.rack.specs.Places.{pairPlace}

@@ -1,6 +1,6 @@
 -- `show::put_ran` meets its contract. Assumes nothing.
 use borrow.Author.Needs.{needs}
-use Rattle.text.specs.Printing.{join}
+use Rattle.text.specs.laws.Printing.{join}
 use Rattle.lines.specs.Lines.{ranText}
 use Rattle.show.proofs.put_ran.Statement.{statement}
 use Rattle.show.proofs.put_ran.Tie as tie

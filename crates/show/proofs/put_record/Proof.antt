@@ -1,6 +1,6 @@
 -- `show::put_record` meets its contract. Assumes nothing.
 use borrow.Author.Needs.{needs}
-use Rattle.text.specs.Printing.{join}
+use Rattle.text.specs.laws.Printing.{join}
 use Rattle.rack.specs.Places.{recordOf}
 use Rattle.show.proofs.put_record.Statement.{statement}
 use Rattle.show.proofs.put_record.Tie as tie

@@ -1,6 +1,6 @@
 -- `show::put_replica` meets its contract. Assumes nothing.
 use borrow.Author.Needs.{needs}
-use Rattle.text.specs.Printing.{join}
+use Rattle.text.specs.laws.Printing.{join}
 use Rattle.show.proofs.put_replica.Statement.{statement}
 use Rattle.show.proofs.put_replica.Tie as tie
 

@@ -1,7 +1,7 @@
 -- `show::put_slot` meets its contract. Assumes nothing.
 use mathlib.Core.Path.{sym, ap}
 use borrow.Author.Needs.{needs}
-use Rattle.text.specs.Printing.{nothing, join, same-text}
+use Rattle.text.specs.laws.Printing.{nothing, join, same-text}
 use Rattle.lines.specs.Lines.{slotLine}
 use Rattle.show.proofs.put_slot.Statement.{statement}
 use Rattle.show.proofs.put_slot.Tie as tie

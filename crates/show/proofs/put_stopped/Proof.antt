@@ -1,6 +1,6 @@
 -- `show::put_stopped` meets its contract. Assumes nothing.
 use borrow.Author.Needs.{needs}
-use Rattle.text.specs.Printing.{nothing}
+use Rattle.text.specs.laws.Printing.{nothing}
 use Rattle.show.proofs.put_stopped.Statement.{statement}
 use Rattle.show.proofs.put_stopped.Tie as tie
 

@@ -1,6 +1,6 @@
 -- `show::put_three` meets its contract. Assumes nothing.
 use borrow.Author.Needs.{needs}
-use Rattle.text.specs.Printing.{join, same-text, hex-append}
+use Rattle.text.specs.laws.Printing.{join, same-text, hex-append}
 use Rattle.show.proofs.put_three.Statement.{statement}
 use Rattle.show.proofs.put_three.Tie as tie
 

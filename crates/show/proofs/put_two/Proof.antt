@@ -1,6 +1,6 @@
 -- `show::put_two` meets its contract. Assumes nothing.
 use borrow.Author.Needs.{needs}
-use Rattle.text.specs.Printing.{join, same-text, hex-append}
+use Rattle.text.specs.laws.Printing.{join, same-text, hex-append}
 use Rattle.show.proofs.put_two.Statement.{statement}
 use Rattle.show.proofs.put_two.Tie as tie
 

@@ -2,7 +2,7 @@
 use Prim.Native.Nat.{_-_, _≤_}
 use borrow.Author.Needs.{needs}
 use Rattle.text.specs.Text.{Printed}
-use Rattle.text.specs.Printing.{printed-length}
+use Rattle.text.specs.laws.Printing.{printed-length}
 use Rattle.show.proofs.Laws.{each-none, each-next, each-all}
 use Rattle.rack.specs.Places.{heldIn}
 use Rattle.lines.specs.Lines.{eachBelow, slotLine}

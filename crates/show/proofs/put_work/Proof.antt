@@ -1,7 +1,7 @@
 -- `show::put_work` meets its contract. Assumes nothing.
 use mathlib.Core.Path.{sym, ap}
 use borrow.Author.Needs.{needs}
-use Rattle.text.specs.Printing.{same-text}
+use Rattle.text.specs.laws.Printing.{same-text}
 use Rattle.lines.specs.Lines.{workText}
 use Rattle.show.proofs.put_work.Statement.{statement}
 use Rattle.show.proofs.put_work.Tie as tie

@@ -1,7 +1,7 @@
 -- `slots::give` meets its contract: a slot past the end is in no word.
 use borrow.Author.Needs.{needs}
 use Rattle.slots.specs.Free.{wordCount}
-use Rattle.slots.specs.Finding.{given-past}
+use Rattle.slots.specs.laws.Finding.{given-past}
 use Rattle.slots.proofs.Laws.{gave}
 use Rattle.slots.proofs.give.Statement.{statement}
 use Rattle.slots.proofs.give.Tie as tie

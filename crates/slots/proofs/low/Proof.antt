@@ -3,7 +3,7 @@ use mathlib.Core.Path.{refl}
 use native.Mathlib.Omega.{arith}
 use borrow.Author.Needs.{needs}
 use lib.Count.{trailing-le}
-use Rattle.slots.specs.Bits.{trailing-lt}
+use Rattle.slots.specs.laws.Bits.{trailing-lt}
 use Rattle.slots.proofs.low.Statement.{statement}
 use Rattle.slots.proofs.low.Tie as tie
 

@@ -1,7 +1,7 @@
 -- `slots::rest` meets its contract.
 use borrow.Author.Needs.{needs}
 use Rattle.slots.proofs.Laws.{one-shl}
-use Rattle.slots.specs.Bits.{trailing-room}
+use Rattle.slots.specs.laws.Bits.{trailing-room}
 use Rattle.slots.proofs.rest.Statement.{statement}
 use Rattle.slots.proofs.rest.Tie as tie
 

@@ -5,7 +5,7 @@ use native.Mathlib.Omega.{arith}
 use borrow.Author.Needs.{needs}
 use Rattle.slots.specs.Free.{wordCount}
 use Rattle.slots.specs.Words.{Tied}
-use Rattle.slots.specs.Finding.{Passed, pass-none, pass-one}
+use Rattle.slots.specs.laws.Finding.{Passed, pass-none, pass-one}
 use Rattle.slots.proofs.Laws.{took-here, took-nothing}
 use Rattle.slots.proofs.take.Statement.{statement}
 use Rattle.slots.proofs.take.Tie as tie

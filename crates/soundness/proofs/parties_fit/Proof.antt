@@ -6,7 +6,7 @@ use borrow.Author.Needs.{needs}
 use borrow.Author.Tests.{not-true, not-false}
 use Rattle.rack.specs.Places.{partyAt}
 use Rattle.rack.specs.Sound.{allBelow, workFits, partiesFit}
-use Rattle.rack.specs.Tests.{all-none, all-next, all-fail}
+use Rattle.rack.specs.laws.Tests.{all-none, all-next, all-fail}
 use Rattle.soundness.proofs.Laws.{all-end}
 use Rattle.soundness.proofs.parties_fit.Statement.{statement}
 use Rattle.soundness.proofs.parties_fit.Tie as tie

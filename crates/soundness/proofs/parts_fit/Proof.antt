@@ -3,7 +3,7 @@ use mathlib.Core.Path.{sym, _∙_}
 use borrow.Author.Needs.{needs}
 use borrow.Author.Tests.{not-true, not-false}
 use Rattle.rack.specs.Sound.{soundOf}
-use Rattle.rack.specs.SoundLaws.{sized}
+use Rattle.rack.specs.laws.SoundLaws.{sized}
 use Rattle.soundness.proofs.parts_fit.Statement.{statement}
 use Rattle.soundness.proofs.parts_fit.Tie as tie
 

@@ -1,7 +1,7 @@
 -- `soundness::record_fits` meets its contract.
 use native.Mathlib.Omega.{arith}
 use borrow.Author.Needs.{needs}
-use Rattle.rack.specs.Owed.{owed-most}
+use Rattle.rack.specs.laws.Owed.{owed-most}
 use Rattle.soundness.proofs.Laws.{record-over, record-is}
 use Rattle.soundness.proofs.record_fits.Statement.{statement}
 use Rattle.soundness.proofs.record_fits.Tie as tie

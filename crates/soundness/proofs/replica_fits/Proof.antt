@@ -6,7 +6,7 @@ use borrow.Author.Needs.{needs}
 use borrow.Author.Tests.{not-true, not-false}
 use Rattle.rack.specs.Places.{pairAt}
 use Rattle.rack.specs.Sound.{allBelow, pairFits}
-use Rattle.rack.specs.Tests.{all-none, all-next, all-fail}
+use Rattle.rack.specs.laws.Tests.{all-none, all-next, all-fail}
 use Rattle.soundness.proofs.Laws.{all-end}
 use Rattle.soundness.proofs.replica_fits.Statement.{statement}
 use Rattle.soundness.proofs.replica_fits.Tie as tie

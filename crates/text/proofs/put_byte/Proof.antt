@@ -1,5 +1,5 @@
 -- `text::put_byte` meets its contract: a byte past the end is dropped. Assumes nothing.
-use Rattle.text.specs.Printing.{byte-in, byte-out}
+use Rattle.text.specs.laws.Printing.{byte-in, byte-out}
 use borrow.Author.Needs.{needs}
 use Rattle.text.proofs.put_byte.Statement.{statement}
 use Rattle.text.proofs.put_byte.Tie as tie

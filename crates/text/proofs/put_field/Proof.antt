@@ -1,5 +1,5 @@
 -- `text::put_field` meets its contract. Assumes nothing.
-use Rattle.text.specs.Printing.{join}
+use Rattle.text.specs.laws.Printing.{join}
 use borrow.Author.Needs.{needs}
 use Rattle.text.proofs.put_field.Statement.{statement}
 use Rattle.text.proofs.put_field.Tie as tie

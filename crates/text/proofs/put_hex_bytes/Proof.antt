@@ -3,7 +3,7 @@ use Prim.Native.Nat.{_-_}
 use borrow.Author.Needs.{needs}
 use lib.ListN.{length, take}
 use Rattle.text.specs.Text.{hexText, Printed}
-use Rattle.text.specs.Printing.{printed-length}
+use Rattle.text.specs.laws.Printing.{printed-length}
 use Rattle.text.proofs.Laws.{no-hex, next-hex, all-hex}
 use Rattle.text.proofs.put_hex_bytes.Statement.{statement}
 use Rattle.text.proofs.put_hex_bytes.Tie as tie

@@ -2,7 +2,7 @@
 use mathlib.Core.Path.{refl, sym, ap}
 use lib.Seq.{length-take-le}
 use Rattle.text.specs.Text.{hexText}
-use Rattle.text.specs.Printing.{same-text}
+use Rattle.text.specs.laws.Printing.{same-text}
 use Rattle.text.proofs.Laws.{in-five, always-room}
 use borrow.Author.Needs.{needs}
 use Rattle.text.proofs.put_hex_number.Statement.{statement}

@@ -1,7 +1,7 @@
 -- `text::put_value` meets its contract. Assumes nothing.
 use Rattle.text.proofs.Laws.{value-even, value-odd}
 use mathlib.Core.Path.{sym}
-use Rattle.number.specs.ValueLaws.{alternating-of-bits}
+use Rattle.number.specs.laws.ValueLaws.{alternating-of-bits}
 use borrow.Author.Needs.{needs}
 use Rattle.text.proofs.put_value.Statement.{statement}
 use Rattle.text.proofs.put_value.Tie as tie

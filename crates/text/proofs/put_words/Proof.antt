@@ -3,7 +3,7 @@ use Prim.Native.Nat.{_-_}
 use borrow.Author.Needs.{needs}
 use lib.ListN.{length, take}
 use Rattle.text.specs.Text.{Printed}
-use Rattle.text.specs.Printing.{nothing, printed-length}
+use Rattle.text.specs.laws.Printing.{nothing, printed-length}
 use Rattle.text.proofs.Laws.{next-word, all-words}
 use Rattle.text.proofs.put_words.Statement.{statement}
 use Rattle.text.proofs.put_words.Tie as tie

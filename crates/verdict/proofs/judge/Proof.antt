@@ -1,6 +1,6 @@
 -- `verdict::judge` meets its contract: a fault of the bytes is the verdict, and else the verdict on the arrays is. Assumes nothing.
 use borrow.Author.Needs.{needs}
-use Rattle.verdict.specs.Judging.{judges-fault, fit-all, judges-all}
+use Rattle.verdict.specs.laws.Judging.{judges-fault, fit-all, judges-all}
 use Rattle.verdict.proofs.judge.Statement.{statement}
 use Rattle.verdict.proofs.judge.Tie as tie
 

@@ -1,8 +1,8 @@
 -- `verdict::judge_paired` meets its contract: 29 by the table of writes, else what the passes settle. Assumes nothing.
 use borrow.Author.Needs.{needs}
-use Rattle.chains.specs.Laws.{empty-zeros}
+use Rattle.chains.specs.laws.TableLaws.{empty-zeros}
 use Rattle.law.specs.Operation.{operations}
-use Rattle.verdict.specs.Judging.{judges-again, judges-lawful, judges-unlawful}
+use Rattle.verdict.specs.laws.Judging.{judges-again, judges-lawful, judges-unlawful}
 use Rattle.verdict.proofs.judge_paired.Statement.{statement}
 use Rattle.verdict.proofs.judge_paired.Tie as tie
 

@@ -1,6 +1,6 @@
 -- `verdict::mark_of` meets its contract. Assumes nothing.
 use borrow.Author.Tests.{lt-ltb, le-ltb}
-use Rattle.clusters.specs.Arrays.{markOf}
+use Rattle.clusters.specs.laws.Arrays.{markOf}
 use Rattle.verdict.proofs.mark_of.Statement.{statement}
 use Rattle.verdict.proofs.mark_of.Tie as tie
 

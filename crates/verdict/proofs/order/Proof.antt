@@ -1,6 +1,6 @@
 -- `verdict::order` meets its contract: the array of places is empty at first. Assumes nothing.
 use borrow.Author.Needs.{needs}
-use Rattle.clusters.specs.Visiting.{scattered-none}
+use Rattle.clusters.specs.laws.Visiting.{scattered-none}
 use Rattle.verdict.proofs.order.Statement.{statement}
 use Rattle.verdict.proofs.order.Tie as tie
 

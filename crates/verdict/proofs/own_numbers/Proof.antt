@@ -2,8 +2,8 @@
 use Prim.Native.Nat.{_-_, _≤_}
 use borrow.Author.Needs.{needs}
 use native.Mathlib.Omega.{arith}
-use Rattle.clusters.specs.Taking.{own-start, own-step, own-end}
-use Rattle.clusters.specs.Arrays.{OwnNumbers}
+use Rattle.clusters.specs.laws.Taking.{own-start, own-step, own-end}
+use Rattle.clusters.specs.laws.Arrays.{OwnNumbers}
 use Rattle.verdict.proofs.own_numbers.Statement.{statement}
 use Rattle.verdict.proofs.own_numbers.Tie as tie
 

@@ -1,6 +1,6 @@
 -- `verdict::place` meets its contract: a write's cluster is put at its place, which no other has, and what is no write beyond all places. Assumes nothing.
 use borrow.Author.Needs.{needs}
-use Rattle.clusters.specs.Visiting.{scatter-on, scatter-inside}
+use Rattle.clusters.specs.laws.Visiting.{scatter-on, scatter-inside}
 use Rattle.verdict.proofs.place.Statement.{statement}
 use Rattle.verdict.proofs.place.Tie as tie
 

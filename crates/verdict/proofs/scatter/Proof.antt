@@ -3,8 +3,8 @@
 use Prim.Native.Nat.{_-_, _≤_}
 use borrow.Author.Needs.{needs}
 use native.Mathlib.Omega.{arith}
-use Rattle.clusters.specs.Visiting.{scatter-end}
-use Rattle.clusters.specs.Arrays.{arrays, Scattered}
+use Rattle.clusters.specs.laws.Visiting.{scatter-end}
+use Rattle.clusters.specs.laws.Arrays.{arrays, Scattered}
 use Rattle.verdict.proofs.scatter.Statement.{statement}
 use Rattle.verdict.proofs.scatter.Tie as tie
 

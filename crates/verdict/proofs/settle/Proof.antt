@@ -1,7 +1,7 @@
 -- `verdict::settle` meets its contract: the passes follow one another. Assumes nothing.
 use borrow.Author.Needs.{needs}
-use Rattle.clusters.specs.Taking.{tally-none-yet, scatterable}
-use Rattle.verdict.specs.Judging.{settles}
+use Rattle.clusters.specs.laws.Taking.{tally-none-yet, scatterable}
+use Rattle.verdict.specs.laws.Judging.{settles}
 use Rattle.verdict.proofs.settle.Statement.{statement}
 use Rattle.verdict.proofs.settle.Tie as tie
 

@@ -1,6 +1,6 @@
 -- `verdict::stop_of` meets its contract. Assumes nothing.
 use borrow.Author.Tests.{eq-eqb, ne-eqb}
-use Rattle.clusters.specs.Arrays.{stopOf}
+use Rattle.clusters.specs.laws.Arrays.{stopOf}
 use Rattle.verdict.proofs.stop_of.Statement.{statement}
 use Rattle.verdict.proofs.stop_of.Tie as tie
 

@@ -2,8 +2,8 @@
 use Prim.Native.Nat.{_-_, _≤_}
 use borrow.Author.Needs.{needs}
 use native.Mathlib.Omega.{arith}
-use Rattle.clusters.specs.Arrays.{arrays, Sweeping}
-use Rattle.clusters.specs.Sweeping.{sweep-start, sweep-end}
+use Rattle.clusters.specs.laws.Arrays.{arrays, Sweeping}
+use Rattle.clusters.specs.laws.Sweeping.{sweep-start, sweep-end}
 use Rattle.verdict.proofs.sweep.Statement.{statement}
 use Rattle.verdict.proofs.sweep.Tie as tie
 

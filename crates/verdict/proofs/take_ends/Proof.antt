@@ -3,8 +3,8 @@
 use Prim.Native.Nat.{_-_, _≤_}
 use borrow.Author.Needs.{needs}
 use native.Mathlib.Omega.{arith}
-use Rattle.clusters.specs.Taking.{tally-end}
-use Rattle.clusters.specs.Arrays.{arrays, Tally}
+use Rattle.clusters.specs.laws.Taking.{tally-end}
+use Rattle.clusters.specs.laws.Arrays.{arrays, Tally}
 use Rattle.verdict.proofs.take_ends.Statement.{statement}
 use Rattle.verdict.proofs.take_ends.Tie as tie
 

@@ -1,6 +1,6 @@
 -- `verdict::take_entry` meets its contract: the entry ends a write, a read or nothing. Assumes nothing.
 use borrow.Author.Needs.{needs}
-use Rattle.clusters.specs.Taking.{small, small-start, lowered-read, lowered-other}
+use Rattle.clusters.specs.laws.Taking.{small, small-start, lowered-read, lowered-other}
 use Rattle.verdict.proofs.take_entry.Statement.{statement}
 use Rattle.verdict.proofs.take_entry.Tie as tie
 

@@ -2,7 +2,7 @@
 -- Assumes nothing.
 use borrow.Author.Needs.{needs}
 use native.Mathlib.Omega.{arith}
-use Rattle.clusters.specs.Taking.{small, small-cell, tally-zero, tally-none, tally-late, tally-found}
+use Rattle.clusters.specs.laws.Taking.{small, small-cell, tally-zero, tally-none, tally-late, tally-found}
 use Rattle.verdict.proofs.take_read.Statement.{statement}
 use Rattle.verdict.proofs.take_read.Tie as tie
 

@@ -1,7 +1,7 @@
 -- `verdict::visit` meets its contract: no cluster stands at the place, or one does. Assumes nothing.
 use borrow.Author.Needs.{needs}
 use native.Mathlib.Omega.{arith}
-use Rattle.clusters.specs.Visiting.{visit-none, visit-on, visit-small}
+use Rattle.clusters.specs.laws.Visiting.{visit-none, visit-on, visit-small}
 use Rattle.verdict.proofs.visit.Statement.{statement}
 use Rattle.verdict.proofs.visit.Tie as tie
 

@@ -1,7 +1,7 @@
 -- `words::entry_of` meets its contract.
 use borrow.Author.Tests.{eq-eqb, ne-eqb}
 use Rattle.rows.specs.Row.{entryOf}
-use Rattle.number.specs.ValueLaws.{signed-of-bits}
+use Rattle.number.specs.laws.ValueLaws.{signed-of-bits}
 use borrow.Author.Needs.{needs}
 use Rattle.words.proofs.entry_of.Statement.{statement}
 use Rattle.words.proofs.entry_of.Tie as tie

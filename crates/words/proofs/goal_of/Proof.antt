@@ -1,6 +1,6 @@
 -- `words::goal_of` meets its contract.
 use borrow.Author.Tests.{eq-eqb, ne-eqb}
-use Rattle.number.specs.ValueLaws.{signed-of-bits}
+use Rattle.number.specs.laws.ValueLaws.{signed-of-bits}
 use Rattle.layout.specs.Reading.{goalOf}
 use borrow.Author.Needs.{needs}
 use Rattle.words.proofs.goal_of.Statement.{statement}

@@ -4,7 +4,7 @@ use mathlib.Core.Path.{_≡_, sym, _∙_}
 use mathlib.Core.Bool.{true}
 use borrow.Author.Tests.{not-true, not-false}
 use Rattle.rack.specs.Sound.{allBelow}
-use Rattle.rack.specs.Tests.{all-none, all-next, all-fail}
+use Rattle.rack.specs.laws.Tests.{all-none, all-next, all-fail}
 use Rattle.layout.specs.Layout.{entryPlace}
 use Rattle.layout.specs.Reading.{lineKnown}
 use Rattle.words.proofs.Reading.{all-end}

@@ -2,7 +2,7 @@
 use mathlib.Core.Path.{ap, _∙_}
 use Rattle.rack.specs.declared.Made.{Made}
 use Rattle.rack.specs.Sound.{soundOf}
-use Rattle.rack.specs.Fresh.{made-sound}
+use Rattle.rack.specs.laws.Fresh.{made-sound}
 use Rattle.words.proofs.Calls.{made-unfit, made-fit}
 use borrow.Author.Needs.{needs}
 use Rattle.words.proofs.made.Statement.{statement}

@@ -1,5 +1,5 @@
 -- `words::pair_at` meets its contract.
-use Rattle.number.specs.ValueLaws.{signed-of-bits}
+use Rattle.number.specs.laws.ValueLaws.{signed-of-bits}
 use Rattle.layout.specs.Reading.{pairIn}
 use borrow.Author.Needs.{needs}
 use Rattle.words.proofs.pair_at.Statement.{statement}

@@ -1,7 +1,7 @@
 -- `words::put_entry` meets its contract.
 use mathlib.Core.Path.{_∙_}
 use borrow.Author.Needs.{needs}
-use Rattle.rows.specs.RowLaws.{stored-in}
+use Rattle.rows.specs.laws.RowLaws.{stored-in}
 use Rattle.words.proofs.put_entry.Statement.{statement}
 use Rattle.words.proofs.put_entry.Tie as tie
 

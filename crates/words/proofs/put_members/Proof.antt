@@ -1,6 +1,6 @@
 -- `words::put_members` meets its contract.
 use mathlib.Core.Path.{ap, _∙_}
-use Rattle.rack.specs.SoundLaws.{sound-of}
+use Rattle.rack.specs.laws.SoundLaws.{sound-of}
 use Rattle.layout.specs.Writing.{pairsPut, partiesPut}
 use borrow.Author.Needs.{needs}
 use native.Mathlib.Omega.{arith}

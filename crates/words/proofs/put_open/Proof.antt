@@ -1,6 +1,6 @@
 -- `words::put_open` meets its contract.
 use Rattle.layout.specs.Writing.{openWords}
-use Rattle.number.specs.ValueLaws.{alternating-of-bits}
+use Rattle.number.specs.laws.ValueLaws.{alternating-of-bits}
 use borrow.Author.Needs.{needs}
 use Rattle.words.proofs.put_open.Statement.{statement}
 use Rattle.words.proofs.put_open.Tie as tie

@@ -1,6 +1,6 @@
 -- `words::put_pair` meets its contract.
 use Rattle.layout.specs.Writing.{pairWords}
-use Rattle.number.specs.ValueLaws.{alternating-of-bits}
+use Rattle.number.specs.laws.ValueLaws.{alternating-of-bits}
 use borrow.Author.Needs.{needs}
 use Rattle.words.proofs.put_pair.Statement.{statement}
 use Rattle.words.proofs.put_pair.Tie as tie

@@ -1,5 +1,5 @@
 -- `words::store` meets its contract.
-use Rattle.rack.specs.SoundLaws.{sound-of}
+use Rattle.rack.specs.laws.SoundLaws.{sound-of}
 use Rattle.layout.specs.Writing.{writtenOf, recordPut, wirePut}
 use Rattle.words.proofs.Writing.{written}
 use borrow.Author.Needs.{needs}

@@ -1,8 +1,8 @@
 -- `writer::entry_length` meets its contract. Assumes nothing.
 use native.Mathlib.Omega.{arith}
-use Rattle.number.specs.ValueLaws.{alternating-of-bits}
+use Rattle.number.specs.laws.ValueLaws.{alternating-of-bits}
 use Rattle.record.specs.Entry.{entryBytes}
-use Rattle.number.specs.Wrote.{longer}
+use Rattle.number.specs.laws.WroteLaws.{longer}
 use borrow.Author.Needs.{needs}
 use Rattle.writer.proofs.entry_length.Statement.{statement}
 use Rattle.writer.proofs.entry_length.Tie as tie

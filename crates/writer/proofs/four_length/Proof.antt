@@ -2,8 +2,8 @@
 use mathlib.Core.List.{_++_}
 use Rattle.number.specs.Number.{numberBytes}
 use native.Mathlib.Omega.{arith}
-use Rattle.number.specs.Laws.{length-few}
-use Rattle.number.specs.Wrote.{length-joined}
+use Rattle.number.specs.laws.NumberLaws.{length-few}
+use Rattle.number.specs.laws.WroteLaws.{length-joined}
 use borrow.Author.Needs.{needs}
 use Rattle.writer.proofs.four_length.Statement.{statement}
 use Rattle.writer.proofs.four_length.Tie as tie

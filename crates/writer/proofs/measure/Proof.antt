@@ -11,12 +11,11 @@ use Rattle.record.specs.Record.{faultAfter, standingAfter}
 use Rattle.record.specs.declared.Entry.{Entry}
 use Rattle.record.specs.declared.Standing.{Standing}
 use Rattle.record.specs.declared.Found.the-variants.{At}
-use Rattle.record.specs.Steps.{Counting, counts-end, counts-full, counts-unread, counts-misplaced, counts-on}
-use Rattle.rows.specs.RowLaws.{row-next, more-rows, no-more-rows}
+use Rattle.record.specs.laws.Steps.{Counting, counts-end, counts-full, counts-unread, counts-misplaced, counts-on}
+use Rattle.rows.specs.laws.RowLaws.{row-next, more-rows, no-more-rows, measure-tally}
 use Rattle.rows.specs.Row.{rowAt}
 use mathlib.Core.List.{List}
 use Rattle.rows.specs.Rows.{rowsHeld}
-use Rattle.rows.specs.RowLaws.{measure-tally}
 use Rattle.writer.proofs.measure.Statement.{statement}
 use Rattle.writer.proofs.measure.Tie as tie
 

@@ -1,6 +1,6 @@
 -- `writer::put_entry` meets its contract. Assumes nothing.
 use Rattle.writer.proofs.Laws.{write-room, told-room}
-use Rattle.number.specs.ValueLaws.{alternating-of-bits}
+use Rattle.number.specs.laws.ValueLaws.{alternating-of-bits}
 use Rattle.record.specs.Entry.{entryBytes}
 use borrow.Author.Needs.{needs}
 use Rattle.writer.proofs.put_entry.Statement.{statement}

@@ -3,7 +3,7 @@ use native.Mathlib.Omega.{arith}
 use mathlib.Core.List.{_++_}
 use lib.ListN.{length-append}
 use Rattle.number.specs.Number.{numberBytes}
-use Rattle.number.specs.Wrote.{join, wrote-length}
+use Rattle.number.specs.laws.WroteLaws.{join, wrote-length}
 use borrow.Author.Needs.{needs}
 use Rattle.writer.proofs.put_four.Statement.{statement}
 use Rattle.writer.proofs.put_four.Tie as tie

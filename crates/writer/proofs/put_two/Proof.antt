@@ -2,7 +2,7 @@
 use native.Mathlib.Omega.{arith}
 use lib.ListN.{length-append}
 use Rattle.number.specs.Number.{numberBytes}
-use Rattle.number.specs.Wrote.{join, wrote-length}
+use Rattle.number.specs.laws.WroteLaws.{join, wrote-length}
 use borrow.Author.Needs.{needs}
 use Rattle.writer.proofs.put_two.Statement.{statement}
 use Rattle.writer.proofs.put_two.Tie as tie

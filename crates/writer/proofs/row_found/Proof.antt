@@ -1,8 +1,8 @@
 -- `writer::row_found` meets its contract: each test leads to its law. Assumes nothing.
 use mathlib.Core.Path.{sym}
 use native.Mathlib.Omega.{arith}
-use Rattle.number.specs.ValueLaws.{signed-of-bits}
-use Rattle.rows.specs.RowLaws.{row-24, row-25-client, row-done, row-told, row-25-cell, row-read, row-write}
+use Rattle.number.specs.laws.ValueLaws.{signed-of-bits}
+use Rattle.rows.specs.laws.RowLaws.{row-24, row-25-client, row-done, row-told, row-25-cell, row-read, row-write}
 use borrow.Author.Needs.{needs}
 use Rattle.writer.proofs.row_found.Statement.{statement}
 use Rattle.writer.proofs.row_found.Tie as tie

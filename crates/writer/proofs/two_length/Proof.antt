@@ -1,7 +1,7 @@
 -- `writer::two_length` meets its contract. Assumes nothing.
 use native.Mathlib.Omega.{arith}
 use lib.ListN.{length-append}
-use Rattle.number.specs.Laws.{length-few}
+use Rattle.number.specs.laws.NumberLaws.{length-few}
 use borrow.Author.Needs.{needs}
 use Rattle.writer.proofs.two_length.Statement.{statement}
 use Rattle.writer.proofs.two_length.Tie as tie

@@ -3,7 +3,7 @@ use Prim.Native.Nat.{_-_, _≤_}
 use mathlib.Core.Path.{_≡_, refl, sym, _∙_}
 use native.Mathlib.Omega.{arith}
 use borrow.Author.Needs.{needs}
-use Rattle.rack.specs.Owed.{owedIn}
+use Rattle.rack.specs.Sound.{owedIn}
 use Rattle.rack.proofs.Laws.{owed-next, owed-end}
 use Rattle.rack.proofs.owed.owed_by_all.Statement.{statement}
 use Rattle.rack.proofs.owed.owed_by_all.Tie as tie

@@ -1,0 +1,117 @@
+-- From one event to a run: what every done event keeps and adds, a run keeps and adds up.
+use Prim.Native.Nat.{ℕ, zero, suc, _+_}
+use mathlib.Core.Path.{_≡_, refl, ap, sym, _∙_, subst}
+use mathlib.Core.Bool.{Bool, true, false, cond}
+use mathlib.Core.List.{List, [], _∷_}
+use native.Mathlib.Omega.{arith}
+use lib.Dec.{ltb, eqb}
+use lib.ListN.{length}
+use Rattle.method.specs.declared.Event.{Event}
+use Rattle.method.specs.declared.Plan.{Plan}
+use Rattle.method.specs.declared.Outcome.{Outcome}
+use Rattle.method.specs.declared.Outcome.the-variants.{No, Go}
+use Rattle.rack.specs.declared.Rack.{Rack}
+use Rattle.rack.specs.declared.Ran.{Ran}
+use Rattle.rack.specs.declared.Made.{Made}
+use Rattle.rack.specs.Sound.{sizesFit, soundOf}
+use Rattle.rack.specs.Run.{eventOf, decided, appliedOf, turn, ranOf, runFrom, runOf, freshRack, madeOf}
+use Rattle.rack.specs.Counts.{counted, countOver}
+use Rattle.runs.specs.laws.Steps.{sound-from, run-steps}
+use Rattle.counts.specs.Counts.{countOf}
+
+-- ---- two counts at once
+
+both-over : (f g : Event → Plan → ℕ) (left : ℕ) (r : Rack) (ws : List ℕ) → countOver (λ e p. f e p + g e p) left r ws ≡ countOver f left r ws + countOver g left r ws
+unfolding countOver counted
+both-over f g zero r ws = refl
+both-over f g (suc left) r [] = refl
+both-over f g (suc left) r (k ∷ []) = refl
+both-over f g (suc left) r (k ∷ a ∷ []) = refl
+both-over f g (suc left) r (k ∷ a ∷ b ∷ []) = refl
+both-over f g (suc left) r (k ∷ a ∷ b ∷ v ∷ ws) = go (decided r (eventOf k a b v)) (λ q. both-over f g left q ws)
+  where
+    go : (o : Outcome) → ((q : Rack) → countOver (λ e p. f e p + g e p) left q ws ≡ countOver f left q ws + countOver g left q ws)
+        → counted (λ e p. f e p + g e p) r (eventOf k a b v) o (λ q. countOver (λ e p. f e p + g e p) left q ws)
+        ≡ counted f r (eventOf k a b v) o (λ q. countOver f left q ws) + counted g r (eventOf k a b v) o (λ q. countOver g left q ws)
+    go (No n) ih = refl
+    go (Go p) ih = omega (arith, ih (appliedOf r (eventOf k a b v) p))
+
+pub both : (f g : Event → Plan → ℕ) (r : Rack) (allowance : ℕ) (ws : List ℕ)
+    → countOf (λ e p. f e p + g e p) r allowance ws ≡ countOf f r allowance ws + countOf g r allowance ws
+unfolding countOf
+both f g r allowance ws = both-over f g (runOf r allowance ws .done) r ws
+
+-- ---- a run of a sound rack
+
+-- What every done event keeps, and a number of the rack to which each adds one count and from which it takes another.
+pub record Adds (I : Rack → Type 0) (v : Rack → ℕ) (less more : Event → Plan → ℕ) (r : Rack) (e : Event) (p : Plan) : Type 0 where
+  pub keeps : I (appliedOf r e p)
+  pub adds : v (appliedOf r e p) + less e p ≡ v r + more e p
+
+module _ (I : Rack → Type 0) (v : Rack → ℕ) (less more : Event → Plan → ℕ) (step : (r : Rack) (e : Event) (p : Plan) → I r → decided r e ≡ Go p → Adds I v less more r e p) where
+  from-adds : (done : ℕ) (r : Rack) (left : ℕ) (ws : List ℕ) → I r
+      → I (runFrom done r left ws .rack) × (v (runFrom done r left ws .rack) + countOver less left r ws ≡ v r + countOver more left r ws)
+  unfolding runFrom turn countOver counted
+  from-adds done r zero ws i = (i, refl)
+  from-adds done r (suc left) [] i = (i, refl)
+  from-adds done r (suc left) (k ∷ []) i = (i, refl)
+  from-adds done r (suc left) (k ∷ a ∷ []) i = (i, refl)
+  from-adds done r (suc left) (k ∷ a ∷ b ∷ []) i = (i, refl)
+  from-adds done r (suc left) (k ∷ a ∷ b ∷ w ∷ ws) i = go (decided r (eventOf k a b w)) refl (λ q. from-adds (done + 1) q left ws)
+    where
+      go : (o : Outcome) → decided r (eventOf k a b w) ≡ o
+          → ((q : Rack) → I q → I (runFrom (done + 1) q left ws .rack) × (v (runFrom (done + 1) q left ws .rack) + countOver less left q ws ≡ v q + countOver more left q ws))
+          → I (turn done r (eventOf k a b w) o (λ q. runFrom (done + 1) q left ws) .rack)
+          × (v (turn done r (eventOf k a b w) o (λ q. runFrom (done + 1) q left ws) .rack) + counted less r (eventOf k a b w) o (λ q. countOver less left q ws)
+          ≡ v r + counted more r (eventOf k a b w) o (λ q. countOver more left q ws))
+      go (No n) e ih = (i, refl)
+      go (Go p) e ih =
+          let s = step r (eventOf k a b w) p i e in
+          let t = ih (appliedOf r (eventOf k a b w) p) (s .keeps) in
+          (t .0, omega (arith, s .adds, t .1))
+
+  -- just the events done leave the same rack
+  pub run-adds : (r : Rack) (allowance : ℕ) (ws : List ℕ) → soundOf r ≡ true → I r
+      → I (runOf r allowance ws .rack) × (v (runOf r allowance ws .rack) + countOf less r allowance ws ≡ v r + countOf more r allowance ws)
+  unfolding countOf
+  run-adds r allowance ws s i =
+      let q : Ran = runOf r allowance ws in
+      let e : runFrom 0 r (q .done) ws .rack ≡ q .rack = ap (λ (x : Ran). x .rack) (sym (sound-from r (q .done) ws s) ∙ run-steps r allowance ws .same) in
+      subst (λ (x : Rack). I x × (v x + countOver less (q .done) r ws ≡ v r + countOver more (q .done) r ws)) e (from-adds 0 r (q .done) ws i)
+
+-- ---- an unsound rack: nothing is done
+
+-- a run in which nothing is counted and which leaves the rack as it was
+pub record Untouched (f : Event → Plan → ℕ) (r : Rack) (allowance : ℕ) (ws : List ℕ) : Type 0 where
+  pub count : countOf f r allowance ws ≡ 0
+  pub left : runOf r allowance ws .rack ≡ r
+
+-- a run by its three tests
+abbrev runIf : Bool → Bool → Bool → Rack → ℕ → List ℕ → Ran
+runIf none few sound r allowance ws = cond none (ranOf 0 0 r) (cond few (ranOf 0 0 r) (cond sound (runFrom 0 r allowance ws) (ranOf 0 2 r)))
+
+pub unsound-none : (f : Event → Plan → ℕ) (r : Rack) (allowance : ℕ) (ws : List ℕ) → soundOf r ≡ false → Untouched f r allowance ws
+unfolding countOf runOf countOver
+unsound-none f r allowance ws u =
+    let e = go (eqb allowance 0) (ltb (length ws) 4) in
+    let same : runOf r allowance ws ≡ runIf (eqb allowance 0) (ltb (length ws) 4) false r allowance ws =
+    ap (λ (t : Bool). runIf (eqb allowance 0) (ltb (length ws) 4) t r allowance ws) u in
+    record { count = ap (λ (q : Ran). countOver f (q .done) r ws) same ∙ ap (λ (n : ℕ). countOver f n r ws) (e .0); left = ap (λ (q : Ran). q .rack) same ∙ e .1 }
+  where
+    go : (a b : Bool) → (runIf a b false r allowance ws .done ≡ 0) × (runIf a b false r allowance ws .rack ≡ r)
+    go true b = (refl, refl)
+    go false true = (refl, refl)
+    go false false = (refl, refl)
+
+-- ---- the maker
+
+either : (P : Made → Type 0) (t : Bool) (a b : Made) → P a → P b → P (cond t a b)
+either P true a b p q = p
+either P false a b p q = q
+
+-- what the maker gives is a fresh rack
+pub made-fresh : (P : Rack → Type 0) → ((replicas clients cells : ℕ) → P (freshRack replicas clients cells)) → (replicas clients cells : ℕ)
+    → P (madeOf replicas clients cells .rack)
+unfolding madeOf
+made-fresh P f replicas clients cells =
+    either (λ (m : Made). P (m .rack)) (sizesFit (record { replicas = replicas; clients = clients; cells = cells })) _ _ (f replicas clients cells) (f 1 1 1)

@@ -1,0 +1,7 @@
+-- Laws: what is proved, and the definitions that only proofs need.
+pub mod Firsts
+pub mod PlaceLaws
+pub mod Trip
+pub mod Again
+pub mod StateLaws
+pub mod OnlyOne

@@ -1,0 +1,203 @@
+-- The lines of a run on a sound rack have 262,144 bytes at most.
+use Prim.Native.Nat.{ℕ, zero, suc, _+_, _*_, _≤_}
+use mathlib.Core.Path.{_≡_}
+use mathlib.Core.Bool.{Bool, true, false, cond}
+use mathlib.Core.List.{List, [], _∷_, _++_, map}
+use native.Mathlib.Omega.{arith}
+use lib.Dec.{eqb}
+use lib.ListN.{length, length-append, take}
+use Rattle.number.specs.Value.{alternatingOf}
+use Rattle.number.specs.laws.NumberLaws.{length-few}
+use Rattle.text.specs.Text.{decimal, field, refusedWord, lineFeed, hexText}
+use Rattle.text.specs.laws.Length.{Few, both, digits-few, value-few, hex-few}
+use Rattle.record.specs.declared.Entry.{Entry}
+use Rattle.record.specs.declared.Entry.the-variants.{ReadAsked, WriteAsked, Told, Done}
+use Rattle.record.specs.Entry.{entryBytes}
+use Rattle.record.specs.Record.{allOf, bytesOf}
+use Rattle.quorum.specs.Sets.{setBits, hasReplica}
+use Rattle.stamps.specs.declared.Pair.{Pair}
+use Rattle.method.specs.declared.Body.{Body}
+use Rattle.method.specs.declared.Body.the-variants.{Ask, Tell, Keep, Kept}
+use Rattle.method.specs.declared.Held.{Held}
+use Rattle.method.specs.declared.Held.the-variants.{Empty, Full}
+use Rattle.method.specs.declared.Goal.{Goal}
+use Rattle.method.specs.declared.Goal.the-variants.{Read, Write}
+use Rattle.method.specs.declared.Work.{Work}
+use Rattle.method.specs.declared.Work.the-variants.{Idle, Asking, Keeping}
+use Rattle.method.specs.declared.Party.{Party}
+use Rattle.rack.specs.declared.Line.{Line}
+use Rattle.rack.specs.declared.Sizes.{Sizes}
+use Rattle.rack.specs.declared.Rack.{Rack}
+use Rattle.rack.specs.declared.Ran.{Ran}
+use Rattle.rack.specs.Places.{partyAt, pairAt, heldAt, recordOf}
+use Rattle.rack.specs.Sound.{soundOf}
+use Rattle.rack.specs.laws.SoundLaws.{sound-of}
+use Rattle.lines.specs.Words.{doneStart, noneWord, replicaStart, clientStart, slotStart, recordStart, space, askingWord, keepingWord, fromNone, heldNone}
+use Rattle.lines.specs.Lines.{eachBelow, pairText, kindText, bodyPair, namesText, messageText, slotLine, goalText, memberText, membersText, openText, heldText, firstHeld}
+use Rattle.lines.specs.Lines.{workText, stoppedText, clientLine, powerText, pairsText, replicaLine, sizesLine, recordLine, rackText, refusalText, ranText, faultLine}
+
+-- ---- pairs
+
+pair-few : (p : Pair) → Few (pairText p) 63
+pair-few p = record { few = simp length-append (omega (arith, digits-few 20 (p .stamp .number) .few, digits-few 20 (p .stamp .rank) .few, value-few (p .value) .few)) }
+
+-- texts of at most m bytes
+each-few : (n m : ℕ) (f : ℕ → List ℕ) → ((i : ℕ) → Few (f i) m) → Few (eachBelow n f) (n * m)
+unfolding eachBelow
+each-few zero m f h = record { few = omega arith }
+each-few (suc n) m f h = let e : suc n * m ≡ n * m + m = omega arith in
+    record { few = simp length-append (omega (arith, each-few n m f h .few, h n .few)) }
+
+-- ---- slots
+
+kind-few : (b : Body) → Few (kindText b) 5
+kind-few Ask = record { few = omega arith }
+kind-few (Tell p) = record { few = omega arith }
+kind-few (Keep p) = record { few = omega arith }
+kind-few Kept = record { few = omega arith }
+
+body-few : (b : Body) → Few (bodyPair b) 69
+body-few Ask = record { few = omega arith }
+body-few (Tell p) = record { few = omega (arith, pair-few p .few) }
+body-few (Keep p) = record { few = omega (arith, pair-few p .few) }
+body-few Kept = record { few = omega arith }
+
+names-few : (client replica cell op : ℕ) → Few (namesText client replica cell op) 107
+names-few client replica cell op =
+    record { few = simp length-append (omega (arith, digits-few 20 client .few, digits-few 20 replica .few, digits-few 20 cell .few, digits-few 20 op .few)) }
+
+slot-few : (i : ℕ) (h : Held) → Few (slotLine i h) 207
+slot-few i Empty = record { few = omega arith }
+slot-few i (Full m) =
+    let names = names-few (m .client .0) (m .replica .0) (m .cell .0) (m .op) in
+    let message : Few (messageText m) 181 = both (kind-few (m .body)) (both names (body-few (m .body))) in
+    let end : Few lineFeed 1 = record { few = omega arith } in
+    let start : Few (field slotStart i) 25 = record { few = omega (arith, digits-few 20 i .few) } in
+    both start (both message end)
+
+-- ---- clients
+
+goal-few : (g : Goal) → Few (goalText g) 28
+goal-few Read = record { few = omega arith }
+goal-few (Write v) = record { few = omega (arith, value-few v .few) }
+
+member-few : (set k : ℕ) → Few (memberText set k) 21
+member-few set k = go (hasReplica set k)
+  where
+    go : (t : Bool) → Few (cond t (field space k) []) 21
+    go true = record { few = omega (arith, digits-few 20 k .few) }
+    go false = record { few = omega arith }
+
+members-few : (set : ℕ) → Few (membersText set) 336
+unfolding setBits
+members-few set = go (eqb set 0)
+  where
+    go : (t : Bool) → Few (cond t fromNone (eachBelow setBits (λ k. memberText set k))) 336
+    go true = record { few = omega arith }
+    go false = record { few = omega (arith, each-few setBits 21 (λ k. memberText set k) (member-few set) .few) }
+
+open-few : (op cell : ℕ) (goal : Goal) (set : ℕ) → Few (openText op cell goal set) 419
+open-few op cell goal set = record { few = simp length-append (omega (arith, goal-few goal .few, digits-few 20 cell .few, digits-few 20 op .few, members-few set .few)) }
+
+held-few : (set : ℕ) (p : Pair) → Few (firstHeld set p) 69
+held-few set p = go (eqb set 0)
+  where
+    go : (t : Bool) → Few (cond t heldNone (heldText p)) 69
+    go true = record { few = omega arith }
+    go false = record { few = omega (arith, pair-few p .few) }
+
+work-few : (op : ℕ) (w : Work) → Few (workText op w) 496
+work-few op Idle = record { few = omega (arith, digits-few 20 op .few) }
+work-few op (Asking cell goal set held) =
+    let phase : Few askingWord 8 = record { few = omega arith } in both phase (both (open-few op (cell .0) goal set) (held-few set held))
+work-few op (Keeping cell goal set held) =
+    let phase : Few keepingWord 8 = record { few = omega arith } in
+    let kept : Few (heldText held) 69 = record { few = omega (arith, pair-few held .few) } in both phase (both (open-few op (cell .0) goal set) kept)
+
+stopped-few : (b : Bool) → Few (stoppedText b) 8
+stopped-few true = record { few = omega arith }
+stopped-few false = record { few = omega arith }
+
+client-few : (i : ℕ) (p : Party) → Few (clientLine i p) 532
+client-few i p =
+    let start : Few (field clientStart i) 27 = record { few = omega (arith, digits-few 20 i .few) } in
+    let end : Few lineFeed 1 = record { few = omega arith } in
+    both start (both (stopped-few (p .stopped)) (both (work-few (p .op) (p .work)) end))
+
+-- ---- replicas
+
+power-few : (b : Bool) → Few (powerText b) 4
+power-few true = record { few = omega arith }
+power-few false = record { few = omega arith }
+
+cell-few : (r : Rack) (k x : ℕ) → Few (space ++ pairText (pairAt r k x)) 64
+cell-few r k x = record { few = omega (arith, pair-few (pairAt r k x) .few) }
+
+replica-few : (r : Rack) → r .sizes .cells ≤ 16 → (k : ℕ) → Few (replicaLine r k) 1057
+replica-few r h k =
+    let start : Few (field replicaStart k) 28 = record { few = omega (arith, digits-few 20 k .few) } in
+    let pairs : Few (pairsText r k) 1024 = record { few = omega (arith, each-few (r .sizes .cells) 64 (λ x. space ++ pairText (pairAt r k x)) (cell-few r k) .few) } in
+    let end : Few lineFeed 1 = record { few = omega arith } in
+    both start (both (power-few (hasReplica (r .power) k)) (both pairs end))
+
+-- ---- the record
+
+entry-few : (e : Entry) → Few (entryBytes e) 20
+unfolding entryBytes
+entry-few (ReadAsked client cell) =
+    record { few = simp length-append (omega (arith, length-few 0, length-few (client .0), length-few (cell .0))) }
+entry-few (WriteAsked client cell v) =
+    record { few = simp length-append (omega (arith, length-few 1, length-few (client .0), length-few (cell .0), length-few (alternatingOf v))) }
+entry-few (Told client v) =
+    record { few = simp length-append (omega (arith, length-few 2, length-few (client .0), length-few (alternatingOf v))) }
+entry-few (Done client) = record { few = simp length-append (omega (arith, length-few 3, length-few (client .0))) }
+
+entries-few : (n : ℕ) (lines : List Line) → Few (bytesOf (map (λ (l : Line). l .entry) (take n lines))) (n * 20)
+unfolding allOf
+entries-few zero lines = record { few = omega arith }
+entries-few (suc n) [] = record { few = omega arith }
+entries-few (suc n) (l ∷ lines) = let b = both (entry-few (l .entry)) (entries-few n lines) in record { few = omega (arith, b .few) }
+
+record-few : (r : Rack) → r .count ≤ 2048 → Few (recordLine r) 122887
+unfolding recordOf
+record-few r h =
+    let start : Few recordStart 6 = record { few = omega arith } in
+    let bytes : Few (hexText (bytesOf (recordOf r))) 122880 = record { few = omega (arith, hex-few (bytesOf (recordOf r)) .few, entries-few (r .count) (r .lines) .few) } in
+    let end : Few lineFeed 1 = record { few = omega arith } in
+    both start (both bytes end)
+
+-- ---- the rack, and a run
+
+sizes-few : (z : Sizes) → Few (sizesLine z) 68
+sizes-few z = record { few = simp length-append (omega (arith, digits-few 20 (z .replicas) .few, digits-few 20 (z .clients) .few, digits-few 20 (z .cells) .few)) }
+
+rack-few : (r : Rack) → soundOf r ≡ true → Few (rackText r) 196058
+rack-few r h =
+    let s = sound-of r h in
+    let replicas : Few (eachBelow (r .sizes .replicas) (λ k. replicaLine r k)) 15855 =
+    record { few = omega (arith, each-few (r .sizes .replicas) 1057 (λ k. replicaLine r k) (replica-few r (s .sizes .cells)) .few, s .sizes .replicas) } in
+    let clients : Few (eachBelow (r .sizes .clients) (λ i. clientLine i (partyAt r i))) 4256 =
+    record { few = omega (arith, each-few (r .sizes .clients) 532 (λ i. clientLine i (partyAt r i)) (λ i. client-few i (partyAt r i)) .few, s .sizes .clients) } in
+    let slots : Few (eachBelow 256 (λ i. slotLine i (heldAt r i))) 52992 =
+    record { few = omega (arith, each-few 256 207 (λ i. slotLine i (heldAt r i)) (λ i. slot-few i (heldAt r i)) .few) } in
+    both (sizes-few (r .sizes)) (both replicas (both clients (both slots (record-few r (omega (arith, s .entries))))))
+
+refusal-few : (k : ℕ) → Few (refusalText k) 20
+refusal-few k = go (eqb k 0)
+  where
+    go : (t : Bool) → Few (cond t noneWord (decimal k)) 20
+    go true = record { few = omega arith }
+    go false = digits-few 20 k
+
+pub ran-fits : (q : Ran) → soundOf (q .rack) ≡ true → length (ranText q) ≤ 262144
+unfolding ranText
+ran-fits q h =
+    let done : Few (field doneStart (q .done)) 25 = record { few = omega (arith, digits-few 20 (q .done) .few) } in
+    let start : Few refusedWord 8 = record { few = omega arith } in
+    let end : Few lineFeed 1 = record { few = omega arith } in
+    omega (arith, both (both done (both end (both start (both (refusal-few (q .refusal)) end)))) (rack-few (q .rack) h) .few)
+
+-- the line of a script's fault
+pub fault-fits : (refusal byte : ℕ) → length (faultLine refusal byte) ≤ 262144
+unfolding faultLine
+fault-fits refusal byte = simp length-append (omega (arith, digits-few 20 refusal .few, digits-few 20 byte .few))

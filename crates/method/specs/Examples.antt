@@ -1,0 +1,27 @@
+-- What the wrong answers that are ruled out are said of: examples.
+use Rattle.stamps.specs.Stamp.{freshPair}
+use Rattle.stamps.specs.Examples.{pairOf}
+use Rattle.method.specs.declared.Body.the-variants.{Tell, Keep}
+use Rattle.method.specs.declared.Held.{Held}
+use Rattle.method.specs.declared.Held.the-variants.{Full}
+use Rattle.method.specs.declared.Goal.the-variants.{Read}
+use Rattle.method.specs.declared.Work.{Work}
+use Rattle.method.specs.declared.Work.the-variants.{Asking}
+use Rattle.method.specs.declared.Sight.{Sight}
+use Rattle.method.specs.Plan.{messageOf, partyAt}
+
+-- three replicas, all on, and a client at what it is at
+abbrev pub three : Work → Sight
+three work = record { replicas = 3; power = 0b111; party = partyAt 1 work; pair = freshPair }
+
+-- it has asked to read cell 0, and replica 0 has told
+abbrev pub asking : Work
+asking = Asking (record { 0 = 0 }) Read 0b001 (pairOf 1 0 5)
+
+-- now replica 1 tells it a pair with a greater stamp
+abbrev pub telling : Held
+telling = Full (messageOf (record { 0 = 0 }) (record { 0 = 1 }) (record { 0 = 0 }) 1 (Tell (pairOf 2 1 6)))
+
+-- a replica that is given the pair it has takes nothing, and answers all the same
+abbrev pub giving : Held
+giving = Full (messageOf (record { 0 = 0 }) (record { 0 = 0 }) (record { 0 = 0 }) 1 (Keep freshPair))

@@ -1,0 +1,130 @@
+-- A replica is given a keep: the move that raises its pair.
+use Prim.Native.Nat.{ℕ, _<_}
+use mathlib.Core.Path.{_≡_, sym, ap, _∙_}
+use mathlib.Core.Logic.{_≢_}
+use native.Mathlib.Omega.{arith}
+use lib.ListN.{getD, set}
+use lib.Seq.{getD-set-same, getD-set-other}
+use Rattle.quorum.specs.Sets.{membersOf}
+use Rattle.law.specs.Order.{In}
+use Rattle.method.specs.declared.Body.the-variants.{Keep, Kept}
+use Rattle.method.specs.declared.Message.{Message}
+use Rattle.rack.specs.declared.Rack.{Rack}
+use Rattle.stamps.specs.Stamp.{freshPair}
+use Rattle.method.specs.declared.Event.{Event}
+use Rattle.method.specs.declared.Plan.{Plan}
+use Rattle.rack.specs.Places.{pairPlace}
+use Rattle.rack.specs.Sound.{bodyFits}
+use Rattle.rack.specs.laws.SoundLaws.{Sized}
+use Rattle.rack.specs.laws.Decided.{lookedHeld, lookedClient, lookedParty, lookedPlace, lookedPair, Looked, sight}
+use Rattle.protocol.specs.View.{Setting, Pair as Seen, View}
+use Rattle.protocol.specs.Message.{Keep as Chose}
+use Rattle.protocol.specs.Move.{Move, take, put, raised, stored, then}
+use Rattle.protocol.specs.Invariant.{Invariant}
+use Rattle.protocol.specs.laws.Place.{put-one}
+use Rattle.protocol.specs.laws.Steps.{step}
+use Rattle.protocol.specs.laws.Stays.{kept-true}
+use Rattle.protocol.specs.laws.Atomic.{reached-keeps}
+use Rattle.promise.specs.laws.SettingLaws.{fits-ranked, only}
+use Rattle.promise.specs.Setting.{settingOf}
+use Rattle.method.specs.Method.{Takes}
+use Rattle.promise.specs.Tie.{pairOf, opOf, Tie}
+use Rattle.promise.specs.laws.Pairs.{raised-seen}
+use Rattle.promise.specs.laws.Record.{none-added, record-same}
+use Rattle.promise.specs.laws.Wire.{means-stays}
+use Rattle.promise.specs.laws.Next.{Sends, says-sends, at-still, Next}
+use Rattle.promise.specs.laws.Slot.{Found, found}
+
+module _ (r : Rack) (e : Event) (p : Plan) (v : View) (name : ℕ → ℕ → ℕ) (t : Tie r v name) (l : Looked r e) (z : Sized (r .sizes))
+    (h : Takes (sight r e) (lookedClient r e) (lookedHeld r e) p) where
+  -- the setting of this rack: its sets of replicas, its majorities and its stamps
+  abbrev S : Setting
+  S = settingOf (r .sizes .replicas)
+
+  -- the client that the event is about
+  abbrev client : ℕ
+  client = lookedClient r e
+
+  -- the keep that is delivered
+  abbrev m : Message
+  m = h .message
+
+  -- the operation of the keep
+  abbrev o : ℕ
+  o = name client (m .op)
+
+  -- the replica that is given the keep
+  abbrev k : ℕ
+  k = m .replica .0
+
+  -- the cell that the keep is about
+  abbrev x : ℕ
+  x = m .cell .0
+
+  f : Found r e v name m (Keep (h .given))
+  f = found r e v name m (Keep (h .given)) t l (h .got)
+
+  legal : Chose v o x (pairOf (h .given))
+  legal = f .means
+
+  inv : Invariant S v
+  inv = reached-keeps S (t .reached)
+
+  -- the replica's pair for that cell, raised by the one given
+  abbrev moved : Seen
+  moved = raised (v .pair k x) (pairOf (h .given))
+
+  -- the view after the replica has that pair
+  abbrev pub taken : View
+  taken = stored v k x moved
+
+  -- the view's pair is the rack's
+  moved-is : moved ≡ pairOf (p .pair)
+  unfolding bodyFits
+  moved-is =
+      ap (λ (q : Seen). raised q (pairOf (h .given))) (f .pair)
+      ∙ raised-seen (lookedPair r e) (h .given) (p .pair) (fits-ranked (r .sizes) z (lookedPair r e) (l .pair))
+      (fits-ranked (r .sizes) z (h .given) (f .fits)) (h .pair)
+
+  -- the pair of replica j for cell y after the event
+  abbrev after : ℕ → ℕ → Seen
+  after j y = pairOf (getD (set (r .pairs) (lookedPlace r e) (p .pair)) (pairPlace j y) freshPair)
+
+  here : moved ≡ after k x
+  here =
+      moved-is
+      ∙ sym (ap (λ (i : ℕ). pairOf (getD (set (r .pairs) (lookedPlace r e) (p .pair)) i freshPair)) (sym (f .place))
+      ∙ ap pairOf (getD-set-same (r .pairs) (lookedPlace r e) (p .pair) freshPair (omega (arith, l .place, t .long .pairs))))
+
+  else : (j y : ℕ) → pairPlace j y ≢ pairPlace k x → j < r .sizes .replicas → y < r .sizes .cells → v .pair j y ≡ after j y
+  else j y d hj hy =
+      t .pairs j y hj hy ∙ ap pairOf (sym (getD-set-other (r .pairs) (lookedPlace r e) (pairPlace j y) (p .pair) freshPair (λ q. d (q ∙ f .place))))
+
+  pairs : (j y : ℕ) → j < r .sizes .replicas → y < r .sizes .cells → taken .pair j y ≡ after j y
+  pairs j y =
+      put-one (λ q g. q < r .sizes .replicas → y < r .sizes .cells → g y ≡ after q y) (v .pair) k (put (v .pair k) x moved)
+      (put-one (λ q s. k < r .sizes .replicas → q < r .sizes .cells → s ≡ after k q) (v .pair k) x moved (λ a b. here)
+      (λ q d a b. else k q (λ i. d (omega arith)) a b) y)
+      (λ q d a b. else q y (λ i. d (omega (arith, f .named .cell, z .cells))) a b) j
+
+  kept : (j : ℕ) → In j (membersOf (r .sizes .replicas) (p .to)) → Sends S taken name client p j
+  kept j i =
+      let q : j ≡ k = only (r .sizes .replicas) (p .to) k j (h .to) i in
+      let b : p .party .op ≡ opOf r client = h .still .op in
+      says-sends S taken name client p j x (m .op) Kept (h .says) (omega (arith, f .op))
+      (rw q (kept-true v o k x (pairOf (h .given)) legal))
+
+  pub takes-next : Next r e p v name taken name
+  takes-next =
+      let move : Move = take o k x (pairOf (h .given)) in
+      record {
+        reached = then (t .reached) move legal;
+        now = omega (arith, none-added (p .note) (h .still .note), t .now);
+        op = omega (arith, h .still .op);
+        old = λ n b. means-stays S v taken inv (step S v inv move legal .later) (name (n .client .0) (n .op)) (n .replica .0) (n .cell .0) (n .body);
+        new = kept;
+        this = at-still (v .ops) name client (lookedParty r e) (p .party) (h .still .op) (h .still .work) (t .clients client (l .client));
+        others = λ c a d. t .clients c a;
+        pairs = pairs;
+        book = rw (record-same r e p (h .still .note)) (t .book);
+      }

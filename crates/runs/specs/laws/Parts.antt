@@ -1,0 +1,75 @@
+-- A schedule in two parts is the schedule whole, and every rack of a run is sound.
+use Prim.Native.Nat.{ℕ, zero, suc, _+_, _*_}
+use mathlib.Core.Path.{_≡_, refl, ap, sym, _∙_}
+use mathlib.Core.Bool.{Bool, true, false, cond}
+use mathlib.Core.List.{List, [], _∷_}
+use native.Mathlib.Omega.{arith}
+use lib.Dec.{eqb, ltb}
+use lib.ListN.{drop, length}
+use Rattle.method.specs.declared.Outcome.{Outcome}
+use Rattle.method.specs.declared.Outcome.the-variants.{No, Go}
+use Rattle.rack.specs.declared.Rack.{Rack}
+use Rattle.rack.specs.declared.Ran.{Ran}
+use Rattle.rack.specs.Sound.{soundOf}
+use Rattle.rack.specs.Run.{eventOf, decided, appliedOf, turn, ranOf, runFrom, runOf}
+use Rattle.runs.specs.laws.Steps.{sound-from, parts-on}
+use Rattle.runs.specs.laws.Stays.{sound-stays}
+use Rattle.runs.specs.Exact.{later}
+
+-- ---- every rack of a run is sound
+
+from-stays : (done : ℕ) (r : Rack) (left : ℕ) (ws : List ℕ) → soundOf r ≡ true → soundOf (runFrom done r left ws .rack) ≡ true
+unfolding runFrom turn
+from-stays done r zero ws s = s
+from-stays done r (suc left) [] s = s
+from-stays done r (suc left) (k ∷ []) s = s
+from-stays done r (suc left) (k ∷ a ∷ []) s = s
+from-stays done r (suc left) (k ∷ a ∷ b ∷ []) s = s
+from-stays done r (suc left) (k ∷ a ∷ b ∷ v ∷ ws) s = go (decided r (eventOf k a b v)) refl (λ q. from-stays (done + 1) q left ws)
+  where
+    go : (o : Outcome) → decided r (eventOf k a b v) ≡ o → ((q : Rack) → soundOf q ≡ true → soundOf (runFrom (done + 1) q left ws .rack) ≡ true)
+        → soundOf (turn done r (eventOf k a b v) o (λ q. runFrom (done + 1) q left ws) .rack) ≡ true
+    go (No n) e ih = s
+    go (Go p) e ih = ih (appliedOf r (eventOf k a b v) p) (sound-stays r (eventOf k a b v) p s e)
+
+pub run-stays : (r : Rack) (allowance : ℕ) (ws : List ℕ) → soundOf r ≡ true → soundOf (runOf r allowance ws .rack) ≡ true
+unfolding runOf
+run-stays r allowance ws s = go (eqb allowance 0) (ltb (length ws) 4)
+  where
+    go : (a b : Bool) → soundOf (cond a (ranOf 0 0 r) (cond b (ranOf 0 0 r) (cond (soundOf r) (runFrom 0 r allowance ws) (ranOf 0 2 r))) .rack) ≡ true
+    go true b = s
+    go false true = s
+    go false false = rw s (from-stays 0 r allowance ws s)
+
+-- ---- the number done counts from where a run starts
+
+from-later : (n done : ℕ) (r : Rack) (left : ℕ) (ws : List ℕ) → runFrom (n + done) r left ws ≡ later n (runFrom done r left ws)
+unfolding runFrom turn
+from-later n done r zero ws = refl
+from-later n done r (suc left) [] = refl
+from-later n done r (suc left) (k ∷ []) = refl
+from-later n done r (suc left) (k ∷ a ∷ []) = refl
+from-later n done r (suc left) (k ∷ a ∷ b ∷ []) = refl
+from-later n done r (suc left) (k ∷ a ∷ b ∷ v ∷ ws) = go (decided r (eventOf k a b v)) (λ q. from-later n (done + 1) q left ws)
+  where
+    go : (o : Outcome) → ((q : Rack) → runFrom (n + (done + 1)) q left ws ≡ later n (runFrom (done + 1) q left ws))
+        → turn (n + done) r (eventOf k a b v) o (λ q. runFrom (n + done + 1) q left ws) ≡ later n (turn done r (eventOf k a b v) o (λ q. runFrom (done + 1) q left ws))
+    go (No x) ih = refl
+    go (Go p) ih =
+        let e : n + done + 1 ≡ n + (done + 1) = omega arith in
+        ap (λ (d : ℕ). runFrom d (appliedOf r (eventOf k a b v) p) left ws) e ∙ ih (appliedOf r (eventOf k a b v) p)
+
+-- ---- two parts
+
+-- m events were done on a sound rack and nothing was refused: the rest goes on from the rack that they left
+pub run-parts : (r q : Rack) (m n : ℕ) (ws : List ℕ) → soundOf r ≡ true → runOf r m ws ≡ ranOf m 0 q → runOf r (m + n) ws ≡ later m (runOf q n (drop (4 * m) ws))
+run-parts r q m n ws s h =
+    let t : soundOf q ≡ true = ap (λ (x : Ran). soundOf (x .rack)) (sym h) ∙ run-stays r m ws s in
+    let y : 0 + m ≡ m + 0 = omega arith in
+    let x : m ≡ 0 + m = omega arith in
+    let f : runFrom 0 r m ws ≡ ranOf (0 + m) 0 q = sym (sound-from r m ws s) ∙ h ∙ ap (λ (d : ℕ). ranOf d 0 q) x in
+    sound-from r (m + n) ws s
+    ∙ parts-on m n 0 r q ws f
+    ∙ ap (λ (d : ℕ). runFrom d q n (drop (4 * m) ws)) y
+    ∙ from-later m 0 q n (drop (4 * m) ws)
+    ∙ ap (later m) (sym (sound-from q n (drop (4 * m) ws) t))

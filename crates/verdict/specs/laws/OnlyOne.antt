@@ -1,0 +1,123 @@
+-- Only one verdict is right, and each says exactly what it means.
+use Prim.Native.Nat.{ℕ, _+_, _<_}
+use mathlib.Core.Path.{_≡_, refl, ap, subst}
+use mathlib.Core.Logic.{_↔_}
+use mathlib.Core.Bool.{Bool, true, false, cond}
+use mathlib.Core.List.{List, [], _∷_}
+use native.Mathlib.Omega.{arith}
+use native.Mathlib.Decide.{decLt}
+use lib.ListN.{getD}
+use Rattle.record.specs.declared.Cell.{Cell}
+use Rattle.record.specs.declared.Entry.{Entry}
+use Rattle.record.specs.Record.{Held, entries, fault, recordOf}
+use Rattle.record.specs.Legal.{Legal}
+use Rattle.law.specs.Operation.{operations}
+use Rattle.law.specs.Order.{Lawful}
+use Rattle.law.specs.laws.Whole.{record-locality, record-locality-16}
+use Rattle.verdict.specs.declared.Verdict.{Verdict}
+use Rattle.verdict.specs.declared.Verdict.the-variants.{Lawful as saysLawful, Unlawful as saysUnlawful, Refused as saysRefused}
+use Rattle.verdict.specs.Verdict.{repeats, distinctFrom, distinct, takenFor, Lowest, Judges}
+use Rattle.verdict.specs.Answers.{caseOf, refusalIn, entryIn, cellIn}
+use Rattle.record.specs.laws.Trip.{reading-legal}
+use Rattle.verdict.specs.Same.{LegalHeld, SameVerdict}
+
+-- ---- a record is one list of entries, and no refusal
+
+no-both : {A : Type 0} {h : Held} {es : List Entry} {k n : ℕ} → h ≡ entries es → h ≡ fault k n → A
+no-both p q = let z : _≡_ {A = ℕ} 0 1 = cc in absurd (omega arith)
+
+one-list : {h : Held} {es fs : List Entry} → h ≡ entries es → h ≡ entries fs → es ≡ fs
+one-list p q = cc
+
+-- ---- the lowest cell
+
+-- there is one lowest cell
+pub one-lowest : (es : List Entry) (c d : ℕ) → Lowest es c → Lowest es d → c ≡ d
+one-lowest es c d l m = elim (decLt c d) [
+  | yes b ↦ absurd (l .unlawful (m .below c b))
+  | no b ↦ elim (decLt d c) [ yes g ↦ absurd (m .unlawful (l .below d g)) | no g ↦ omega (arith, b, g) ]
+]
+
+-- a lawful record has none
+pub lawful-no-lowest : (es : List Entry) → Legal es → (c : ℕ) → Lawful (operations es) → Lowest es c → ⊥
+lawful-no-lowest es h c l m = m .unlawful (record-locality es h .0 l c)
+
+-- it is one of the sixteen
+pub lowest-below : (es : List Entry) → Legal es → (c : ℕ) → Lowest es c → c < 16
+lowest-below es h c m = elim (decLt c 16) [
+  | yes b ↦ b
+  | no b ↦ absurd (lawful-no-lowest es h c (record-locality-16 es h .1 (λ d l. m .below d (omega (arith, b, l)))) m)
+]
+
+-- ---- one verdict
+
+pub only-one : (h : Held) → LegalHeld h → (v v′ : Verdict) → Judges h v → Judges h v′ → v ≡ v′
+only-one h l saysLawful saysLawful p q = refl
+only-one h l saysLawful (saysUnlawful d) (es, (e, o)) (fs, (f, m)) =
+    absurd (lawful-no-lowest fs (l fs f) (d .0) (subst (λ (xs : List Entry). Lawful (operations xs)) (one-list e f) o) m)
+only-one h l saysLawful (saysRefused k n) (es, (e, o)) q = no-both e q
+only-one h l (saysUnlawful c) saysLawful (es, (e, m)) (fs, (f, o)) =
+    absurd (lawful-no-lowest es (l es e) (c .0) (subst (λ (xs : List Entry). Lawful (operations xs)) (one-list f e) o) m)
+only-one h l (saysUnlawful c) (saysUnlawful d) (es, (e, m)) (fs, (f, o)) =
+    let b : c .0 ≡ d .0 = one-lowest fs (c .0) (d .0) (subst (λ (xs : List Entry). Lowest xs (c .0)) (one-list e f) m) o in
+    ap (λ (n : ℕ). saysUnlawful (record { 0 = n })) b
+only-one h l (saysUnlawful c) (saysRefused k n) (es, (e, m)) q = no-both e q
+only-one h l (saysRefused k n) saysLawful p (fs, (f, o)) = no-both f p
+only-one h l (saysRefused k n) (saysUnlawful d) p (fs, (f, o)) = no-both f p
+only-one h l (saysRefused k n) (saysRefused i j) p q = let a : k ≡ i = cc in let b : n ≡ j = cc in cc
+
+-- ---- each says exactly what it means
+
+module _ (h : Held) (v : Verdict) (j : Judges h v) where
+  pub lawful-exactly : (es : List Entry) → h ≡ entries es → Legal es → (v ≡ saysLawful) ↔ Lawful (operations es)
+  lawful-exactly es e l = (
+    λ q. let (fs, (f, o)) = subst (Judges h) q j in subst (λ (xs : List Entry). Lawful (operations xs)) (one-list f e) o,
+    λ o. only-one h (λ fs f. subst Legal (one-list e f) l) v saysLawful j (es, (e, o)),
+  )
+
+  pub unlawful-exactly : (es : List Entry) → h ≡ entries es → Legal es → (c : Cell) → (v ≡ saysUnlawful c) ↔ Lowest es (c .0)
+  unlawful-exactly es e l c = (
+    λ q. let (fs, (f, o)) = subst (Judges h) q j in subst (λ (xs : List Entry). Lowest xs (c .0)) (one-list f e) o,
+    λ o. only-one h (λ fs f. subst Legal (one-list e f) l) v (saysUnlawful c) j (es, (e, o)),
+  )
+
+  pub refused-exactly : (k n : ℕ) → (v ≡ saysRefused k n) ↔ (h ≡ fault k n)
+  refused-exactly k n = (
+    λ q. subst (Judges h) q j,
+    λ e. only-one h (λ fs f. no-both f e) v (saysRefused k n) j e,
+  )
+
+-- ---- on bytes
+
+-- 29 changes no entry
+distinct-same : (earlier es : List Entry) (n : ℕ) (whole : Held) (fs : List Entry) → distinctFrom earlier n es whole ≡ entries fs → whole ≡ entries fs
+unfolding distinctFrom
+distinct-same earlier [] n whole fs p = p
+distinct-same earlier (e ∷ es) n whole fs p = go (repeats earlier e) p (distinct-same (e ∷ earlier) es (n + 1) whole fs)
+  where
+    go : (t : Bool) → cond t (fault 29 n) (distinctFrom (e ∷ earlier) (n + 1) es whole) ≡ entries fs
+        → (distinctFrom (e ∷ earlier) (n + 1) es whole ≡ entries fs → whole ≡ entries fs) → whole ≡ entries fs
+    go true q f = no-both {h = fault 29 n} q refl
+    go false q f = f q
+
+-- what bytes are taken for is what they hold, and has no fault
+pub taken-same : (s : List ℕ) (es : List Entry) → takenFor s ≡ entries es → recordOf s ≡ entries es
+unfolding takenFor distinct
+taken-same s es p = go (recordOf s) p
+  where
+    go : (h : Held) → distinct h ≡ entries es → h ≡ entries es
+    go (entries fs) q = distinct-same [] fs 0 (entries fs) es q
+    go (fault k n) q = q
+
+module _ (s : List ℕ) (bytes : (i : ℕ) → getD s i 0 < 256) where
+  pub taken-legal : LegalHeld (takenFor s)
+  taken-legal es e = reading-legal s es bytes (taken-same s es e)
+
+  -- two verdicts on the same bytes that are both right are the same, in every word
+  pub one-verdict : (v v′ : Verdict) → Judges (takenFor s) v → Judges (takenFor s) v′ → v ≡ v′
+  one-verdict v v′ p q = only-one (takenFor s) taken-legal v v′ p q
+
+pub same-verdict : (s : List ℕ) → ((i : ℕ) → getD s i 0 < 256) → (v v′ : Verdict) → Judges (takenFor s) v → Judges (takenFor s) v′ → SameVerdict v v′
+same-verdict s bytes v v′ p q =
+    let e = one-verdict s bytes v v′ p q in
+    record { says = ap caseOf e; refusal = ap refusalIn e; entry = ap entryIn e; cell = ap cellIn e }
