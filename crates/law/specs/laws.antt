@@ -11,9 +11,7 @@ pub mod Whole
 pub mod TagTheorem
 pub mod Zones
 pub mod ClusterTheorem
-pub mod Sweep
 pub mod Checked
-pub mod Judged
 pub mod Decide
 pub mod Search
 pub mod Sheet

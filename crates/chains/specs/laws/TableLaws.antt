@@ -32,10 +32,6 @@ module _ {kinds cells values : List ℕ} where
   pub zero-again : {p c : ℕ} → Asks kinds cells values p c 0 → Again kinds cells values p
   zero-again a = record { write = a .write; again = inl (a .value) }
 
-  -- where none asks again, nothing writes 0
-  pub never-zero : {n p c : ℕ} → Asks kinds cells values p c 0 → p < n → NoneAgain kinds cells values n → ⊥
-  never-zero {n} {p} a l none = none p l (zero-again a)
-
   -- where none asks again, a cell and a value have one write
   pub one-write : {n p q c v : ℕ} → Asks kinds cells values p c v → Asks kinds cells values q c v → p < n → q < n → NoneAgain kinds cells values n → p ≡ q
   one-write {n} {p} {q} a b lp lq none =

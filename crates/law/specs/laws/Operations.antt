@@ -114,12 +114,6 @@ number-apart es = single (λ (o : Op). o .number) (operations es) (numbered es .
 pub stops-after : (es : List Entry) (x : Op) → In x (operations es) → T (x .over) → x .start ≤ x .stop
 stops-after es x m t = let h = numbered es .timed x m .stops t in omega (arith, h .0)
 
--- starts rise along the operations
-pub starts-rise : (es : List Entry) → Pairs (λ x y. x .start < y .start) (operations es)
-starts-rise es =
-    pairs-imp (λ x y. x .number < y .number) (λ x y. x .start < y .start) (operations es)
-    (λ x y m r h. omega (arith, numbered es .timed x m .starts, numbered es .timed y r .starts)) (numbered es .rises)
-
 -- ---- of a record without a fault
 
 -- What the standing says of the operations: a client's unfinished operation is of the kind that it has open, there is one where it has
@@ -259,17 +253,6 @@ pub follows-back : (st : Standing) (es fs : List Entry) → Follows st (es ++ fs
 follows-back st [] fs f = f
 follows-back st (e ∷ es) fs f = follows-back (standingAfter st e) es fs (f .2)
 
--- a client has something open exactly when it has an unfinished operation
-pub open-iff : (es : List Entry) → Follows fresh es → (k : ℕ)
-    → (has (standing es) k ≢ 0) ↔ ((x : Op) × ((In x (operations es)) × ((x .client ≡ k) × (x .over ≡ false))))
-open-iff es f k = (
-  λ s. tied es f .found k s,
-  λ w z. none-open (tied es f) k z (w .0) (w .1 .0) (w .1 .1 .1) (w .1 .1 .0),
-)
-
--- the operations of a legal record are of cells below 16 and clients below 8
+-- the operations of a legal record are of cells below 16
 pub legal-cell : (es : List Entry) → Legal es → (x : Op) → In x (operations es) → x .cell < 16
 legal-cell es h = tied es (h .follows) .cell
-
-pub legal-client : (es : List Entry) → Legal es → (x : Op) → In x (operations es) → x .client < 8
-legal-client es h = tied es (h .follows) .client

@@ -128,11 +128,3 @@ module _ (d : List ℕ) (at n : ℕ) where
   pub put-keeps : length d < at + length (numberBytes n) → putBytes d at n ≡ d
   unfolding putBytes
   put-keeps h = simp (lt-leb (at + length (numberBytes n)) (length d) h)
-
-  pub put-length : length (putBytes d at n) ≡ length d
-  unfolding putBytes
-  put-length = go (fitsAt d at n)
-    where
-      go : (t : Bool) → length (cond t (sets d at (numberBytes n)) d) ≡ length d
-      go true = length-sets d at (numberBytes n)
-      go false = refl

@@ -42,10 +42,6 @@ pub rows-of-rows : (es : List Entry) → Legal es → rowsHeld (rowsOf es) ≡ e
 unfolding rowsHeld
 rows-of-rows es l = holds _ _ rowOf (rowsOf es) (rows-source (rowsOf es)) es entryLimit 0 0 fresh (l .follows) (l .few) refl
 
--- each number of its rows is a word
-pub rows-words : (es : List Entry) → Legal es → Words (rowsOf es)
-rows-words es l = all-below (2 ^ 32) rowOf (omega arith) row-words es fresh (l .follows)
-
 -- ---- lent memory
 
 never : {A : Type 0} {k n m : ℕ} → Refused k n ≡ All m → A
