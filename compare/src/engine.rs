@@ -171,3 +171,26 @@ fn any_event(random: &mut Random) -> [u32; 4] {
     let first = random.below(if (2..5).contains(&kind) { 12 } else { 4 }) as u32;
     [kind, first, random.below(4) as u32, random.below(9) as u32]
 }
+
+#[cfg(test)]
+mod tests {
+    use super::*;
+
+    fn left_of(words: &[u32]) -> Result<Vec<Left>, String> {
+        all_left(&words.iter().flat_map(|word| word.to_le_bytes()).collect::<Vec<u8>>())
+    }
+
+    #[test]
+    fn answers_are_laid_out_as_the_header_says() {
+        assert_eq!(ran_of(0, 0), Ran { done: 0, refusal: None });
+        assert_eq!(ran_of(9, 13), Ran { done: 9, refusal: Some(13) });
+        assert_eq!(ran_of(9, 1 << 8 | 13), Ran { done: 9, refusal: Some(u8::MAX) });
+    }
+
+    #[test]
+    fn a_change_of_the_events_is_a_disagreement() {
+        let left = Left { ran: Ran { done: 1, refusal: None }, changed: vec![(4, 7)] };
+        assert_eq!(left_of(&[1, 0, 1, 4, 7, 0, 1, 0, 1, 4, 7, 0]), Ok(vec![left.clone(), left]));
+        assert!(left_of(&[1, 0, 1, 4, 7, 0, 1, 0, 1, 4, 7, 1, 3, 0]).is_err());
+    }
+}
