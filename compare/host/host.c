@@ -3,11 +3,13 @@
  *
  * It reads batches of requests from standard input and writes a batch of responses for each. A batch is a count of bytes
  * (four of them) and then these bytes. A request is a head and then its source; a response is the call's answer, a word
- * that is 1 when the source was changed, and all memory that was lent, with the fences on both sides of it.
+ * that is 1 when the source or what lies beside it was changed, and all memory that was lent to be written, with the fences
+ * on both sides of it.
  *
  * A rack's request has a state of `lent` words and then a schedule as its source, and `number` is the allowance of RACK_RUN.
- * RACK_STEPS tries the events one by one, each in a call of its own. Of each call the response is the answer, a count, and as
- * many places and words: all that the call changed of the state and of the fences, found by comparing every word. */
+ * RACK_STEPS tries the events one by one, each in a call of its own; RACK_MADE has three sizes in place of a schedule, and is
+ * lent no events. Of each call the response is the answer and all that the call changed, found by comparing every word: of the
+ * state and its fences a count, and as many places and words; then the same of the events and their fences. */
 #include "adzequarry.h"
 
 enum { READ_NUMBER = 1, WRITE_NUMBER, ALTERNATING, SIGNED, READ_RECORD, WRITE_RECORD, WRITE_THEN_READ, READ_THEN_WRITE, VERDICT, RACK_MADE, RACK_STEPS, RACK_RUN };
@@ -20,14 +22,17 @@ struct head {
     uint64_t at;
 };
 
-enum { MOST_REQUESTS = 1 << 21, MOST_RESPONSES = 1 << 25, MOST_ELEMENTS = 1 << 15, MOST_EVENT_WORDS = 1 << 18, FENCE = 5 };
+enum { MOST_REQUESTS = 1 << 21, MOST_RESPONSES = 1 << 25, MOST_ELEMENTS = 1 << 15, MOST_EVENT_WORDS = 1 << 18, FENCE = 5, BESIDE = 16 };
 
 static uint8_t requests[MOST_REQUESTS];
 static uint8_t responses[MOST_RESPONSES];
-static uint32_t source[MOST_ELEMENTS], between[MOST_ELEMENTS];
+static uint32_t lent_to_read[BESIDE + MOST_ELEMENTS + BESIDE], between[MOST_ELEMENTS];
+static uint32_t *const source = lent_to_read + BESIDE;
+static uint8_t ones[BESIDE * sizeof(uint32_t)];
 static uint8_t lent_bytes[MOST_ELEMENTS], byte_filling[MOST_ELEMENTS];
 static uint32_t lent_words[MOST_ELEMENTS], word_filling[MOST_ELEMENTS];
-static uint32_t words_before[MOST_ELEMENTS], events[MOST_EVENT_WORDS + 16];
+static uint32_t words_before[MOST_ELEMENTS];
+static uint32_t lent_events[MOST_EVENT_WORDS + 2 * FENCE], events_before[MOST_EVENT_WORDS + 2 * FENCE];
 
 /* Eight bytes anywhere in memory. An emulator takes about as long for one byte as for eight, and for each turn of a loop. */
 typedef uint64_t __attribute__((may_alias, aligned(1))) eight;
@@ -146,55 +151,89 @@ static int are_same_64(const void *one, const void *other) {
             (a[7] ^ b[7])) == 0;
 }
 
-/* Puts the answer of a call on a rack and all that it changed, and takes note of it. */
-static size_t put_changes(uint64_t answer, size_t count, size_t at) {
+/* Puts all that is other than before among so many words, and takes note of it. A fence stands before place 0. */
+static size_t put_changes(const uint32_t *words, uint32_t *before, size_t count, size_t at) {
     uint32_t changes = 0;
-    at = put(at, &answer, sizeof answer);
     size_t counted_at = at;
     at = put(at, &changes, sizeof changes);
     for (size_t place = 0; place < count; place++) {
-        while (place + 16 <= count && are_same_64(lent_words + place, words_before + place)) place += 16;
+        while (place + 16 <= count && are_same_64(words + place, before + place)) place += 16;
         if (place == count) break;
-        if (lent_words[place] == words_before[place]) continue;
-        uint32_t change[2] = {(uint32_t)place - FENCE, lent_words[place]};
+        if (words[place] == before[place]) continue;
+        uint32_t change[2] = {(uint32_t)place - FENCE, words[place]};
         at = put(at, change, sizeof change);
-        words_before[place] = lent_words[place];
+        before[place] = words[place];
         changes++;
     }
     memcpy(responses + counted_at, &changes, sizeof changes);
     return at;
 }
 
+/* Puts the answer of a call on a rack that was lent so many words and events, and all that it changed. */
+static size_t put_call(uint64_t answer, size_t words, size_t event_words, size_t at) {
+    at = put(at, &answer, sizeof answer);
+    at = put_changes(lent_words, words_before, words + 2 * FENCE, at);
+    return put_changes(lent_events, events_before, event_words + 2 * FENCE, at);
+}
+
+static void lend_state(const uint8_t *sent, size_t length) {
+    size_t count = length + 2 * FENCE;
+    memcpy(lent_words, word_filling, count * sizeof(uint32_t));
+    memcpy(lent_words + FENCE, sent, length * sizeof(uint32_t));
+    memcpy(words_before, lent_words, count * sizeof(uint32_t));
+}
+
+/* The filling is no event, so that a call that reads too far is refused. */
+static void lend_events(const uint8_t *sent, size_t length) {
+    memcpy(lent_events, word_filling, FENCE * sizeof(uint32_t));
+    memcpy(lent_events + FENCE, sent, length * sizeof(uint32_t));
+    memcpy(lent_events + FENCE + length, word_filling + FENCE, FENCE * sizeof(uint32_t));
+    memcpy(events_before, lent_events, (length + 2 * FENCE) * sizeof(uint32_t));
+}
+
+static size_t make(const struct head *h, const uint8_t *sizes, size_t at) {
+    uint32_t size[3];
+    memcpy(size, sizes, sizeof size);
+    lend_events(sizes, 0);
+    return put_call(adze_rack_made(lent_words + FENCE, h->lent, size[0], size[1], size[2]), h->lent, 0, at);
+}
+
+static size_t run(const struct head *h, uint32_t allowance, const uint8_t *events, size_t length, size_t at) {
+    lend_events(events, length);
+    return put_call(adze_rack_run(lent_words + FENCE, h->lent, allowance, lent_events + FENCE, length), h->lent, length, at);
+}
+
 /* A request on a rack, whose state and schedule stand at `sent`. */
 static size_t respond_of_racks(const struct head *h, const uint8_t *sent, size_t at) {
-    size_t count = h->lent + 2 * FENCE, length = h->source - h->lent;
-    if (h->source < h->lent || count > MOST_ELEMENTS || length > MOST_EVENT_WORDS) end(8);
-    uint32_t *state = lent_words + FENCE;
-    memcpy(lent_words, word_filling, count * sizeof(uint32_t));
-    memcpy(state, sent, h->lent * sizeof(uint32_t));
-    memcpy(words_before, lent_words, count * sizeof(uint32_t));
-    memcpy(events, sent + h->lent * sizeof(uint32_t), length * sizeof(uint32_t));
-    memset(events + length, 0, 64);
-    if (h->call == RACK_MADE) return put_changes(adze_rack_made(state, h->lent, events[0], events[1], events[2]), count, at);
-    if (h->call == RACK_RUN) return put_changes(adze_rack_run(state, h->lent, h->number, events, length), count, at);
-    for (size_t event = 0; event + 4 <= length; event += 4)
-        at = put_changes(adze_rack_run(state, h->lent, 1, events + event, 4), count, at);
-    if (memcmp(events, sent + h->lent * sizeof(uint32_t), length * sizeof(uint32_t)) != 0) end(9);
+    size_t length = h->source - h->lent;
+    if (h->source < h->lent || h->lent + 2 * FENCE > MOST_ELEMENTS || length > MOST_EVENT_WORDS) end(8);
+    const uint8_t *events = sent + h->lent * sizeof(uint32_t);
+    lend_state(sent, h->lent);
+    if (h->call == RACK_MADE && length != 3) end(9);
+    if (h->call == RACK_MADE) return make(h, events, at);
+    if (h->call == RACK_RUN) return run(h, h->number, events, length, at);
+    for (size_t event = 0; event + 4 <= length; event += 4) at = run(h, 1, events + event * sizeof(uint32_t), 4, at);
     return at;
 }
 
-/* Does one request, whose source stands at `sent`, and puts its response at place `at`. Behind the source stand bytes that
+static int source_is_changed(const uint8_t *sent, size_t size) {
+    return memcmp(lent_to_read, ones, sizeof ones) != 0 || memcmp(source, sent, size) != 0 ||
+           memcmp((uint8_t *)source + size, ones, sizeof ones) != 0;
+}
+
+/* Does one request, whose source stands at `sent`, and puts its response at place `at`. Beside the source stand bytes that
  * end a number, so that a call that reads too far doesn't find the end of the bytes. */
 static size_t respond(const struct head *h, const uint8_t *sent, size_t at) {
     int lends_words = h->call == READ_RECORD || h->call == WRITE_THEN_READ;
     size_t size = source_size(h), count = h->lent + 2 * FENCE;
-    if (size + 64 > sizeof source || count > MOST_ELEMENTS) end(6);
+    if (size > MOST_ELEMENTS * sizeof(uint32_t) || count > MOST_ELEMENTS) end(6);
+    memcpy(lent_to_read, ones, sizeof ones);
     memcpy(source, sent, size);
-    memset((uint8_t *)source + size, 1, 64);
+    memcpy((uint8_t *)source + size, ones, sizeof ones);
     if (lends_words) memcpy(lent_words, word_filling, count * sizeof(uint32_t));
     else memcpy(lent_bytes, byte_filling, count);
     uint64_t answer = answer_of(h);
-    uint32_t source_changed = memcmp(source, sent, size) != 0;
+    uint32_t source_changed = source_is_changed(sent, size);
     at = put(at, &answer, sizeof answer);
     at = put(at, &source_changed, sizeof source_changed);
     if (lends_words) return put(at, lent_words, count * sizeof(uint32_t));
@@ -224,6 +263,7 @@ _Noreturn void host_main(void) {
         byte_filling[place] = 0x5A ^ (uint8_t)(place * 0x3D);
         word_filling[place] = 0xA5C30000 + (uint32_t)place;
     }
+    memset(ones, 1, sizeof ones);
     for (;;) serve_batch();
 }
 

@@ -3,7 +3,7 @@
 
 use crate::rattle::{Call, Library, Request, Source};
 use crate::response::*;
-use crate::verdicts::Tally;
+use crate::tally::Tally;
 use compare::law::Verdict;
 use compare::paper::{number, record, rows};
 use std::fmt::{self, Display, UpperHex};
@@ -122,6 +122,7 @@ impl Checker {
 
     /// The verdict on bytes, as the independent judges have found it. Nothing is lent to be written.
     pub fn verdict(&mut self, bytes: &[u8], verdict: Verdict) -> Checked {
+        self.tally.count(verdict);
         let request = Request { call: Call::Verdict, source: Source::Bytes(bytes), lent: 0, number: 0, at: 0 };
         self.queue(request, |expected| put_with_bytes(expected, answer_to_verdict(verdict), &fresh_bytes(0)))
     }
@@ -225,7 +226,7 @@ fn differences(request: &[u8], expected: &[u8], given: &[u8]) -> String {
     let (paper, library) = (in_words(long_at(expected, 0)), in_words(long_at(given, 0)));
     let mut lines = format!("  paper:   {paper}\n  library: {library}");
     if word_at(given, 8) != 0 {
-        lines += "\n  the call wrote to what it was lent to read";
+        lines += "\n  the call wrote to what it was lent to read, or beside it";
     }
     if let Some(at) = (MEMORY_AT..given.len()).find(|at| given[*at] != expected[*at]) {
         let of_words = [Call::ReadRecord as u32, Call::WriteThenRead as u32].contains(&word_at(request, 0));

@@ -22,13 +22,13 @@ impl RattleRack {
         let request = Request { call, source: Source::Words(&source), lent: state.len(), number, at: 0 };
         let mut batch = Vec::new();
         request.put_to(&mut batch);
-        let responses = self.0.ask(&batch).map_err(|error| error.to_string())?;
-        Ok(all_left(&responses))
+        let responses = self.0.ask(&batch).map_err(|error| format!("{error}\n"))?;
+        all_left(&responses)
     }
 
     fn ask_once(&mut self, call: Call, state: &[u32], allowance: usize, events: &[u32]) -> Result<Left, String> {
         let mut left = self.ask(call, state, allowance, events)?;
-        left.pop().ok_or_else(|| "the host doesn't answer".to_string())
+        left.pop().ok_or_else(|| "the host doesn't answer\n".to_string())
     }
 }
 
@@ -42,15 +42,29 @@ impl Follower for RattleRack {
     }
 }
 
-/// Of each call: the answer in two words, a count, and as many places and words.
-fn all_left(responses: &[u8]) -> Vec<Left> {
+/// Of each call: the answer in two words, what it changed of the state, and what it changed of the events. These are lent only
+/// to be read, so that a change of them, or of what lies beside them, is a disagreement whatever the call answers.
+fn all_left(responses: &[u8]) -> Result<Vec<Left>, String> {
     let mut words = responses.chunks_exact(4).map(|word| u32::from_le_bytes([word[0], word[1], word[2], word[3]]));
     let mut left = Vec::new();
-    while let (Some(done), Some(refusal), Some(count)) = (words.next(), words.next(), words.next()) {
-        let changed = (0..count).filter_map(|_| words.next().zip(words.next())).collect();
+    while let (Some(done), Some(refusal)) = (words.next(), words.next()) {
+        let (changed, of_events) = (next_changes(&mut words), next_changes(&mut words));
+        if let Some((place, word)) = of_events.first() {
+            let (call, place) = (left.len(), *place as i32);
+            return Err(format!(
+                "the Rattle engine DOES NOT AGREE: call {call} of the schedule wrote {word:X} to place {place} of the events, \
+                 which it was lent to read, or beside them\n"
+            ));
+        }
         left.push(Left { ran: ran_of(done, refusal), changed });
     }
-    left
+    Ok(left)
+}
+
+/// A count, and as many places and words.
+fn next_changes(words: &mut impl Iterator<Item = u32>) -> Vec<(u32, u32)> {
+    let count = words.next().unwrap_or(0);
+    (0..count).filter_map(|_| words.next().zip(words.next())).collect()
 }
 
 /// Bits 32 and more of an answer are the refusal; one that is no byte is none that the paper has.
@@ -63,6 +77,18 @@ fn ran_of(done: u32, refusal: u32) -> Ran {
 fn changes(before: &[u32], after: &[u32]) -> Vec<(u32, u32)> {
     let places = 0..before.len();
     places.filter(|place| before[*place] != after[*place]).map(|place| (place as u32, after[place])).collect()
+}
+
+/// Both answers, and how many words are changed on one side only, with the first of them. Places below 0 lie before the state.
+fn side_by_side(paper: &Left, other: &Left) -> String {
+    let mut lines = String::new();
+    for (who, one, another) in [("the paper", paper, other), ("the other", other, paper)] {
+        let alone: Vec<_> = one.changed.iter().filter(|change| !another.changed.contains(change)).collect();
+        let first = alone.first().map(|(place, word)| format!(", the first at {}: {word:X}", *place as i32));
+        let (ran, count) = (one.ran, alone.len());
+        lines += &format!("  {who}: {ran:?}, {count} words changed otherwise{}\n", first.unwrap_or_default());
+    }
+    lines
 }
 
 /// The maker: every size near the limits and some far away, and lengths that are no rack's.
@@ -99,7 +125,7 @@ fn one_maker(rack: &mut RattleRack, sizes: Sizes) -> Result<(), String> {
     let left = rack.ask_once(Call::RackMade, &before, 0, &[sizes.replicas, sizes.clients, sizes.cells])?;
     let expected = Left { ran: Ran { done: 0, refusal }, changed: changes(&before, &words) };
     if left != expected {
-        return Err(format!("the maker of {sizes:?}: {:?}, not {:?}\n", left.ran, expected.ran));
+        return Err(format!("the maker of {sizes:?}:\n{}", side_by_side(&expected, &left)));
     }
     Ok(())
 }
@@ -123,9 +149,7 @@ pub fn damaged(
         let expected = Left { ran, changed: changes(&before, &after) };
         let left = rack.ask_once(Call::RackRun, &before, events.len() / 4, &events)?;
         if left != expected {
-            return Err(format!(
-                "a damaged state with {events:?}:\n  the paper: {expected:?}\n  the other: {left:?}\n"
-            ));
+            return Err(format!("a damaged state with {events:?}:\n{}", side_by_side(&expected, &left)));
         }
     }
     Ok(states)
@@ -146,4 +170,27 @@ fn any_event(random: &mut Random) -> [u32; 4] {
     let kind = random.below(9) as u32;
     let first = random.below(if (2..5).contains(&kind) { 12 } else { 4 }) as u32;
     [kind, first, random.below(4) as u32, random.below(9) as u32]
+}
+
+#[cfg(test)]
+mod tests {
+    use super::*;
+
+    fn left_of(words: &[u32]) -> Result<Vec<Left>, String> {
+        all_left(&words.iter().flat_map(|word| word.to_le_bytes()).collect::<Vec<u8>>())
+    }
+
+    #[test]
+    fn answers_are_laid_out_as_the_header_says() {
+        assert_eq!(ran_of(0, 0), Ran { done: 0, refusal: None });
+        assert_eq!(ran_of(9, 13), Ran { done: 9, refusal: Some(13) });
+        assert_eq!(ran_of(9, 1 << 8 | 13), Ran { done: 9, refusal: Some(u8::MAX) });
+    }
+
+    #[test]
+    fn a_change_of_the_events_is_a_disagreement() {
+        let left = Left { ran: Ran { done: 1, refusal: None }, changed: vec![(4, 7)] };
+        assert_eq!(left_of(&[1, 0, 1, 4, 7, 0, 1, 0, 1, 4, 7, 0]), Ok(vec![left.clone(), left]));
+        assert!(left_of(&[1, 0, 1, 4, 7, 0, 1, 0, 1, 4, 7, 1, 3, 0]).is_err());
+    }
 }

@@ -11,6 +11,7 @@ mod reader;
 mod response;
 mod round_trips;
 mod sheet;
+mod tally;
 mod verdicts;
 mod writer;
 

@@ -1,9 +1,9 @@
 //! Inputs for the judge. The independent judge by the rule decides each; where a cell has few operations the search decides
 //! it too, and the two must say the same.
 
-use crate::check::{Checked, Checker, Trouble};
+use crate::check::{hex, Checked, Checker, Trouble};
 use compare::histories::{every_record, fault, register_run, small_record, write_again, Run, Shape};
-use compare::law::{by_rule, by_search, judged_operations, Verdict};
+use compare::law::{by_rule, by_search, judged_operations};
 use compare::making::{any_bytes, exchanges_for_byte, record};
 use compare::paper::record::{bytes_of, Entry, CELLS, CLIENTS, MOST_ENTRIES};
 use compare::random::Random;
@@ -11,30 +11,6 @@ use compare::samples;
 
 /// No record of 2,048 entries has more bytes, since none of its entries has more than 8.
 const MOST_BYTES: usize = 8 * MOST_ENTRIES;
-
-/// How many verdicts of each kind were compared.
-#[derive(Default)]
-pub struct Tally {
-    lawful: u64,
-    unlawful: u64,
-    refused: u64,
-}
-
-impl Tally {
-    fn count(&mut self, verdict: Verdict) {
-        match verdict {
-            Verdict::Lawful => self.lawful += 1,
-            Verdict::Unlawful { .. } => self.unlawful += 1,
-            Verdict::Refused(_) => self.refused += 1,
-        }
-    }
-}
-
-impl std::fmt::Display for Tally {
-    fn fmt(&self, f: &mut std::fmt::Formatter<'_>) -> std::fmt::Result {
-        write!(f, "{} lawful, {} unlawful, {} refused", self.lawful, self.unlawful, self.refused)
-    }
-}
 
 pub fn verdicts(checker: &mut Checker, random: &mut Random) -> Checked {
     for sample in samples::all() {
@@ -61,14 +37,13 @@ fn try_bytes(checker: &mut Checker, bytes: &[u8]) -> Checked {
         if by_search::can_decide(&operations) {
             let searched = by_search::verdict(bytes);
             if searched != verdict {
-                let hex = crate::check::hex(bytes);
+                let record = hex(bytes);
                 let lines =
-                    format!("the independent judges\n  record: [{hex}]\n  search: {searched}\n  rule: {verdict}");
+                    format!("the independent judges\n  record: [{record}]\n  search: {searched}\n  rule: {verdict}");
                 return Err(Trouble::Disagreement(lines));
             }
         }
     }
-    checker.tally.count(verdict);
     checker.verdict(bytes, verdict)
 }
 

@@ -17,7 +17,7 @@
 //! power bits beyond the sizes and entries beyond the count are no part of the rack: never looked at and never changed.
 //!
 //! Words that are no state at all (a phase 3, a body 4, a count above 2,048, bits above the fifteenth replica's power or the
-//! sixteen of a set, an entry of kind 4 or of a ninth client) are unsound: refused 2 as soon as an event is tried.
+//! sixteen of a set, an entry of kind 4, of a ninth client or of cell 16) are unsound: refused 2 as soon as an event is tried.
 
 use super::event::Event;
 use super::refusal::UNSOUND_STATE;
@@ -190,9 +190,4 @@ fn write(rack: &Rack, state: &mut [u32]) {
         copy(PAIRS_AT + replica * CELLS * PAIR_WORDS, cells * PAIR_WORDS);
     }
     copy(SLOTS_AT, SLOTS * SLOT_WORDS + rack.record.len() * ROW);
-}
-
-/// The answer of such a call: bits 0 to 31 the events done, bits 32 to 39 the refusal, 0 for none.
-pub fn answer_of(ran: Ran) -> u64 {
-    u64::from(ran.refusal.unwrap_or(0)) << 32 | ran.done as u64 & 0xFFFF_FFFF
 }

@@ -74,7 +74,21 @@ fn words_that_are_no_state_are_unsound() {
 }
 
 #[test]
-fn answers_of_the_call() {
-    assert_eq!(answer_of(Ran { done: 0, refusal: None }), 0);
-    assert_eq!(answer_of(Ran { done: 9, refusal: Some(13) }), 13 << 32 | 9);
+fn an_entry_that_no_record_has_is_no_state() {
+    let good = encode(&fresh(3, 2, 2));
+    let with_entry = |row: [u32; 4], count: u32| {
+        let mut words = good.clone();
+        words[4] = count;
+        words[ENTRIES_AT..ENTRIES_AT + 4].copy_from_slice(&row);
+        words
+    };
+    for row in [[4, 0, 0, 0], [0, 8, 0, 0], [3, 8, 0, 0], [0, 0, 16, 0], [1, 0, 16, 0]] {
+        assert_eq!(decode(&with_entry(row, 1)), None, "{row:?}");
+        assert!(decode(&with_entry(row, 0)).is_some(), "{row:?} beyond the count");
+    }
+    // A client and a cell that this rack hasn't got, an end without a start, and fields that the kind hasn't got.
+    for row in [[1, 7, 15, 9], [3, 0, 0, 0], [2, 0, 16, 5], [3, 0, 99, 99]] {
+        let mut words = with_entry(row, 1);
+        assert_eq!(run_words(&mut words, 1, &[0, 0, 0, 0]), Ran { done: 1, refusal: None }, "{row:?}");
+    }
 }
