@@ -146,6 +146,13 @@ module _ (c : ℕ) (at : ℕ → ℕ) (st part : Standing) (h : Shadow c at st p
   shadow-has (asks k cell w v) may t = shadow-none k (may .2) ∙ sym (may .2)
   shadow-has (ends k v) may t = h .own k (eqb-true (at k) c t)
 
+fault-same : (st part : Standing) (e : Entry) → has part (clientOf (stepOf e)) ≡ has st (clientOf (stepOf e)) → faultAfter part e ≡ faultAfter st e
+unfolding faultAfter
+fault-same st part (ReadAsked client cell) q = rw q
+fault-same st part (WriteAsked client cell value) q = rw q
+fault-same st part (Told client value) q = rw q
+fault-same st part (Done client) q = rw q
+
 part-follows : (c : ℕ) (at : ℕ → ℕ) (st part : Standing) (es : List Entry) → Shadow c at st part → Follows st es → Follows part (partFrom c at es)
 unfolding partFrom
 part-follows c at st part [] h f = tt
