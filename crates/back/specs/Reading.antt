@@ -7,7 +7,7 @@ use Rattle.record.specs.declared.Entry.{Entry}
 use Rattle.record.specs.declared.Answer.the-variants.{All}
 use Rattle.record.specs.Record.{entries, bytesOf, recordOf}
 use Rattle.rows.specs.Rows.{rowsOf, readOutcome, writeOutcome}
-use Rattle.record.specs.Below.{Bytes}
+use Rattle.number.specs.Below.{Bytes}
 use Rattle.verdict.specs.declared.Verdict.the-variants.{Refused as saysRefused}
 use Rattle.verdict.specs.Verdict.{takenFor, Judges}
 

@@ -13,7 +13,7 @@ use Rattle.chains.specs.declared.Write.{Write}
 use Rattle.chains.specs.declared.Write.the-variants.{At, None}
 use Rattle.chains.specs.Chains.{Again, NoneAgain}
 use Rattle.chains.specs.Table.{homeAt, Homed, Latest, Chained, Empty, Found, Linking}
-use Rattle.chains.specs.laws.Entering.{Tells, Entered}
+use Rattle.chains.specs.laws.Entering.{Decides, Entered}
 
 -- below n + 1 is n, or below n
 upper : {n p : ℕ} → p < n + 1 → (p ≡ n) ⊎ (p < n)
@@ -97,10 +97,10 @@ pub none-yet : (kinds cells values : List ℕ) → NoneAgain kinds cells values 
 none-yet kinds cells values p l a = omega arith
 
 -- a test's two answers
-pub tells-yes : {P : Type 0} → P → Tells P true
+pub tells-yes : {P : Type 0} → P → Decides P true
 tells-yes x = record { yes = λ _. x; no = λ e. absurd (true≢false e) }
 
-pub tells-no : {P : Type 0} → (P → ⊥) → Tells P false
+pub tells-no : {P : Type 0} → (P → ⊥) → Decides P false
 tells-no n = record { yes = λ e. absurd (true≢false (sym e)); no = λ _. n }
 
 module _ {kinds cells values : List ℕ} {head next : List ℕ} where

@@ -4,7 +4,7 @@ ghost use Prim.Native.Nat.{_+_, _%_, _≤_, _<_};
 ghost use lib.ListN.{getD};
 ghost use Rattle.chains.specs.Chains.{Again};
 ghost use Rattle.chains.specs.Table.{homeOf, Chained, Empty, Found, Linking};
-ghost use Rattle.chains.specs.laws.Entering.{Tells, Entered};
+ghost use Rattle.chains.specs.laws.Entering.{Decides, Entered};
 
 // What linking the writes gives: all are linked, or the first that asks again.
 pub enum Linked {
@@ -62,7 +62,7 @@ fn home(cell: u8, value: u32) -> usize
 // Whether an entry has this cell and value.
 fn suits(cells: &[u8; 2048], values: &[u32; 2048], w: usize, cell: u8, value: u32) -> bool
     requires { ⌜ w < 2048 ⌝ }
-    ensures { λ r. ⌜ Tells ((getD (now (cells .entry)) w 0 ≡ cell) × (getD (now (values .entry)) w 0 ≡ value)) r ⌝ }
+    ensures { λ r. ⌜ Decides ((getD (now (cells .entry)) w 0 ≡ cell) × (getD (now (values .entry)) w 0 ≡ value)) r ⌝ }
 {
     if values[w] == value {
         if cells[w] == cell {
@@ -108,7 +108,7 @@ fn asks_again(
     next: &[u16; 2048],
 ) -> bool
     requires { ⌜ (p < 2048) × (getD (now kinds) p 0 ≡ 1) × Chained (now kinds) (now cells) (now values) p (now head) (now next) ⌝ }
-    ensures { λ r. ⌜ Tells (Again (now (kinds .entry)) (now (cells .entry)) (now (values .entry)) p) r ⌝ }
+    ensures { λ r. ⌜ Decides (Again (now (kinds .entry)) (now (cells .entry)) (now (values .entry)) p) r ⌝ }
 {
     if values[p] == 0 {
         return true;

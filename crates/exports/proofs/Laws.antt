@@ -14,7 +14,7 @@ use Rattle.number.specs.declared.Number.the-variants.{Is}
 use Rattle.number.specs.declared.Put.the-variants.{Next}
 use Rattle.record.specs.Record.{Held, entries, fault, recordOf}
 use Rattle.rows.specs.Rows.{readOutcome, writeOutcome}
-use Rattle.record.specs.Below.{Bytes}
+use Rattle.number.specs.Below.{Bytes}
 use Rattle.record.specs.laws.Trip.{reading-legal}
 use Rattle.record.specs.Named.{Named}
 use Rattle.record.specs.laws.Refusals.{record-faults}

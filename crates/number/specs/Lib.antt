@@ -1,4 +1,5 @@
 -- What has to be believed: definitions.
+pub mod Below
 pub mod Number
 pub mod Value
 pub mod Answers

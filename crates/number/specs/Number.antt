@@ -62,6 +62,11 @@ numberOf at bs =
 unfoldable pub numberAt : List ℕ → ℕ → Number
 numberAt s at = numberOf at (taken 4 (drop at s))
 
+-- a number that is refused gives what its refusal gives; else go on with it and the place after it
+unfoldable pub andThen : {A : Type 0} → (ℕ → A) → Number → (ℕ → ℕ → A) → A
+andThen refuse (Refused k) go = refuse k
+andThen refuse (Is n next) go = go n next
+
 -- whether a number fits at place at
 abbrev pub fitsAt : List ℕ → ℕ → ℕ → Bool
 fitsAt d at n = leb (at + length (numberBytes n)) (length d)

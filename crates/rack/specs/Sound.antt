@@ -30,11 +30,6 @@ owes (Keeping cell goal set held) = 1
 unfoldable pub owedBy : Party → ℕ
 owedBy p = cond (p .stopped) 0 (owes (p .work))
 
--- what the first n of some clients owe
-unfoldable pub owedIn : ℕ → List Party → ℕ
-owedIn zero ps = 0
-owedIn (suc n) ps = owedIn n ps + owedBy (getD ps n idle)
-
 -- each number below n
 unfoldable pub allBelow : ℕ → (ℕ → Bool) → Bool
 allBelow zero f = true
@@ -84,14 +79,14 @@ workFits z Idle = true
 workFits z (Asking cell goal set held) = askFits z cell set held
 workFits z (Keeping cell goal set held) = keepFits z cell set held
 
--- the answers owed by the clients below n
-unfoldable pub owedBelow : ℕ → Rack → ℕ
-owedBelow zero r = 0
-owedBelow (suc n) r = owedBelow n r + owedBy (partyAt r n)
+-- the answers owed by the first n of some clients
+unfoldable pub owedIn : ℕ → List Party → ℕ
+owedIn zero ps = 0
+owedIn (suc n) ps = owedIn n ps + owedBy (getD ps n idle)
 
 -- answers owed are one for each open operation of a client not stopped
 unfoldable pub owed : Rack → ℕ
-owed r = owedBelow (r .sizes .clients) r
+owed r = owedIn (r .sizes .clients) (r .parties)
 
 -- every message on the wire
 unfoldable pub wireFits : Rack → Bool

@@ -3,7 +3,7 @@ use Prim.Native.Nat.{ℕ}
 use mathlib.Core.List.{List, _++_}
 use mathlib.Core.Bool.{cond}
 use lib.Dec.{ltb, eqb}
-use Rattle.number.specs.Number.{numberBytes, numberAt}
+use Rattle.number.specs.Number.{numberBytes, numberAt, andThen}
 use Rattle.number.specs.Value.{alternatingOf, signedOf}
 use Rattle.number.specs.declared.Number.{Number}
 use Rattle.number.specs.declared.Number.the-variants.{Is, Refused}
@@ -24,23 +24,18 @@ unfoldable pub upTo : ℕ → ℕ → Number → Number
 upTo limit refusal (Refused k) = Refused k
 upTo limit refusal (Is n next) = cond (ltb limit n) (Refused refusal) (Is n next)
 
--- a number that is refused refuses its entry; else go on with it and the place after it
-unfoldable pub andThen : Number → (ℕ → ℕ → Found) → Found
-andThen (Refused k) go = Fault k
-andThen (Is n next) go = go n next
-
 -- the fields after kind and client; 25: cell above 15
 unfoldable pub fieldsAt : List ℕ → ℕ → ℕ → ℕ → Found
 fieldsAt s at kind client =
     cond (eqb kind 3) (At (Done (record { 0 = client })) at)
-    (cond (eqb kind 2) (andThen (numberAt s at) (λ v next. At (Told (record { 0 = client }) (signedOf v)) next))
-    (andThen (upTo 15 25 (numberAt s at)) (λ cell next.
+    (cond (eqb kind 2) (andThen Fault (numberAt s at) (λ v next. At (Told (record { 0 = client }) (signedOf v)) next))
+    (andThen Fault (upTo 15 25 (numberAt s at)) (λ cell next.
     cond (eqb kind 0) (At (ReadAsked (record { 0 = client }) (record { 0 = cell })) next)
-    (andThen (numberAt s next) (λ v last. At (WriteAsked (record { 0 = client }) (record { 0 = cell }) (signedOf v)) last)))))
+    (andThen Fault (numberAt s next) (λ v last. At (WriteAsked (record { 0 = client }) (record { 0 = cell }) (signedOf v)) last)))))
 
 -- what reading an entry at place at of s gives; 24: kind above 3; 25: client above 7
 unfoldable pub entryAt : List ℕ → ℕ → Found
 entryAt s at =
-    andThen (upTo 3 24 (numberAt s at)) (λ kind next.
-    andThen (upTo 7 25 (numberAt s next)) (λ client more.
+    andThen Fault (upTo 3 24 (numberAt s at)) (λ kind next.
+    andThen Fault (upTo 7 25 (numberAt s next)) (λ client more.
     fieldsAt s more kind client))

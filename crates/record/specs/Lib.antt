@@ -2,7 +2,6 @@
 pub mod Entry
 pub mod Record
 pub mod Legal
-pub mod Below
 pub mod Answers
 pub mod Examples
 pub mod Named

@@ -6,7 +6,7 @@ use mathlib.Core.Bool.{cond}
 use lib.ListN.{length}
 use lib.Seq.{sets}
 use lib.Dec.{ltb, eqb}
-use Rattle.number.specs.Number.{numberAt}
+use Rattle.number.specs.Number.{numberAt, andThen}
 use Rattle.number.specs.declared.Number.{Number}
 use Rattle.number.specs.declared.Number.the-variants.{Is, Refused as NoNumber}
 use Rattle.script.specs.declared.Words.{Words}
@@ -15,14 +15,9 @@ use Rattle.script.specs.declared.Filled.{Filled}
 
 -- ---- numbers
 
--- a number that is refused (21 to 23) refuses its script, at the byte where it begins; else go on with it and the place after it
-unfoldable pub andThen : ℕ → Number → (ℕ → ℕ → Words) → Words
-andThen at (NoNumber k) go = Refused k at
-andThen at (Is n next) go = go n next
-
 -- the number at a place of the script, or its refusal
 abbrev pub reading : List ℕ → ℕ → (ℕ → ℕ → Words) → Words
-reading s at go = andThen at (numberAt s at) go
+reading s at go = andThen (λ k. Refused k at) (numberAt s at) go
 
 -- the last of four numbers
 unfoldable pub lastAt : List ℕ → ℕ → ℕ → ℕ → ℕ → Words

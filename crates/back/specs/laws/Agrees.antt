@@ -16,7 +16,7 @@ use Rattle.record.specs.declared.Entry.the-variants.{ReadAsked, WriteAsked, Tol
 use Rattle.record.specs.declared.Standing.{Standing}
 use Rattle.record.specs.Record.{entryLimit, fresh, faultAfter, standingAfter}
 use Rattle.record.specs.Legal.{InRange, Follows, Legal}
-use Rattle.record.specs.Below.{Words}
+use Rattle.number.specs.Below.{Words}
 use Rattle.law.specs.Standing.{has, standingFrom, standing}
 use Rattle.law.specs.laws.Steps.{put}
 use Rattle.law.specs.laws.Operations.{standing-append, fresh-none, tied, has-same, has-other}

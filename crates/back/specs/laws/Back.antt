@@ -11,7 +11,7 @@ use Rattle.record.specs.declared.Answer.the-variants.{All}
 use Rattle.record.specs.Record.{entries, fault, bytesOf}
 use Rattle.rows.specs.Rows.{Outcome, rowsOf, writeOutcome, Leaves}
 use Rattle.record.specs.Legal.{Legal}
-use Rattle.record.specs.Below.{Words}
+use Rattle.number.specs.Below.{Words}
 use Rattle.rows.specs.laws.Storing.{stored-fits}
 use Rattle.record.specs.laws.Trip.{read-of-write, record-bytes, record-few}
 use Rattle.rows.specs.laws.Trip.{reads-legal, writes-legal}

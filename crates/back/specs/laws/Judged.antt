@@ -12,7 +12,7 @@ use Rattle.record.specs.declared.Cell.{Cell}
 use Rattle.record.specs.declared.Entry.{Entry}
 use Rattle.record.specs.declared.Entry.the-variants.{ReadAsked, WriteAsked, Told, Done}
 use Rattle.record.specs.Record.{Held, entries, fault, bytesOf}
-use Rattle.record.specs.Below.{Words}
+use Rattle.number.specs.Below.{Words}
 use Rattle.verdict.specs.declared.Verdict.{Verdict}
 use Rattle.verdict.specs.declared.Verdict.the-variants.{Lawful as saysLawful, Refused as saysRefused}
 use Rattle.verdict.specs.Verdict.{asksFor, askedAmong, repeats, distinctFrom, distinct, takenFor, Judges}
@@ -52,6 +52,7 @@ use Rattle.back.specs.Writes.{writesBy, writesOf, Differ}
 use Rattle.back.specs.laws.Lines.{added}
 use Rattle.back.specs.laws.Agrees.{decided-plan, record-next, agree-stays, event-small, made-agrees, made-empty, run-legal}
 use Rattle.back.specs.laws.Back.{taken-legal}
+use Rattle.method.specs.laws.Tests.{whichever}
 
 -- ---- entries without a repeat
 
@@ -160,31 +161,27 @@ abbrev OutcomeAdds : List Entry → Outcome → Type 0
 OutcomeAdds ws (No k) = Unit {0}
 OutcomeAdds ws (Go p) = writesIn (p .note) ≡ ws
 
-either : (ws : List Entry) (t : Bool) (a b : Outcome) → OutcomeAdds ws a → OutcomeAdds ws b → OutcomeAdds ws (cond t a b)
-either ws true a b p q = p
-either ws false a b p q = q
-
 module _ (s : Sight) where
   start-adds : (client : Client) (cell : Cell) (goal : Goal) (entry : Entry) → OutcomeAdds (ifWrite entry) (startOf s client cell goal entry)
   unfolding startOf startIn started
-  start-adds client cell goal entry = either (ifWrite entry) (s .party .stopped) _ _ tt (go (s .party .work))
+  start-adds client cell goal entry = whichever (OutcomeAdds (ifWrite entry)) (s .party .stopped) _ _ tt (go (s .party .work))
     where
       go : (w : Work) → OutcomeAdds (ifWrite entry) (startIn w s (s .party .op) client cell goal entry)
-      go Idle = either (ifWrite entry) (eqb (s .party .op) 65535) _ _ tt refl
+      go Idle = whichever (OutcomeAdds (ifWrite entry)) (eqb (s .party .op) 65535) _ _ tt refl
       go (Asking y g set q) = tt
       go (Keeping y g set q) = tt
 
   phase-adds : (m : Message) (goal : Goal) (cell : Cell) (held : Pair) → OutcomeAdds [] (phaseEnds goal s m cell held)
   unfolding phaseEnds keepsOf
   phase-adds m Read cell held = refl
-  phase-adds m (Write v) cell held = either [] (eqb (held .stamp .number) 4294967295) _ _ tt refl
+  phase-adds m (Write v) cell held = whichever (OutcomeAdds []) (eqb (held .stamp .number) 4294967295) _ _ tt refl
 
   tell-adds : (m : Message) (q : Pair) (w : Work) → OutcomeAdds [] (tellIn w s m q)
   unfolding tellIn tellCounts
   tell-adds m q Idle = refl
   tell-adds m q (Asking cell goal set held) =
-      either [] (hasReplica set (m .replica .0)) _ _ refl
-      (either [] (asksEnough (s .replicas) (withReplica set (m .replica .0))) _ _ (phase-adds m goal cell (holds set held q)) refl)
+      whichever (OutcomeAdds []) (hasReplica set (m .replica .0)) _ _ refl
+      (whichever (OutcomeAdds []) (asksEnough (s .replicas) (withReplica set (m .replica .0))) _ _ (phase-adds m goal cell (holds set held q)) refl)
   tell-adds m q (Keeping cell goal set held) = refl
 
   last-adds : (goal : Goal) (client : Client) (held : Pair) → ifWrite (lastEntry goal client held) ≡ []
@@ -197,15 +194,15 @@ module _ (s : Sight) where
   kept-adds m Idle = refl
   kept-adds m (Asking cell goal set held) = refl
   kept-adds m (Keeping cell goal set held) =
-      either [] (hasReplica set (m .replica .0)) _ _ refl
-      (either [] (keepsEnough (s .replicas) (withReplica set (m .replica .0))) _ _ (last-adds goal (m .client) held) refl)
+      whichever (OutcomeAdds []) (hasReplica set (m .replica .0)) _ _ refl
+      (whichever (OutcomeAdds []) (keepsEnough (s .replicas) (withReplica set (m .replica .0))) _ _ (last-adds goal (m .client) held) refl)
 
   deliver-adds : (m : Message) (b : Body) → OutcomeAdds [] (deliverIn b s m)
   unfolding deliverIn askOf keepOf tellOf keptOf
-  deliver-adds m Ask = either [] (hasReplica (s .power) (m .replica .0)) _ _ refl tt
-  deliver-adds m (Tell q) = either [] (current (s .party) m) _ _ (tell-adds m q (s .party .work)) refl
-  deliver-adds m (Keep q) = either [] (hasReplica (s .power) (m .replica .0)) _ _ refl tt
-  deliver-adds m Kept = either [] (current (s .party) m) _ _ (kept-adds m (s .party .work)) refl
+  deliver-adds m Ask = whichever (OutcomeAdds []) (hasReplica (s .power) (m .replica .0)) _ _ refl tt
+  deliver-adds m (Tell q) = whichever (OutcomeAdds []) (current (s .party) m) _ _ (tell-adds m q (s .party .work)) refl
+  deliver-adds m (Keep q) = whichever (OutcomeAdds []) (hasReplica (s .power) (m .replica .0)) _ _ refl tt
+  deliver-adds m Kept = whichever (OutcomeAdds []) (current (s .party) m) _ _ (kept-adds m (s .party .work)) refl
 
   resend-adds : (client : Client) (w : Work) → OutcomeAdds [] (resendIn w s client)
   unfolding resendIn
@@ -224,10 +221,10 @@ module _ (s : Sight) where
   plan-adds (Full m) (Lose slot) = refl
   plan-adds Empty (Copy slot) = tt
   plan-adds (Full m) (Copy slot) = refl
-  plan-adds held (Resend client) = either [] (s .party .stopped) _ _ tt (resend-adds client (s .party .work))
-  plan-adds held (Stop client) = either [] (s .party .stopped) _ _ tt refl
-  plan-adds held (Off replica) = either [] (hasReplica (s .power) (replica .0)) _ _ refl tt
-  plan-adds held (On replica) = either [] (hasReplica (s .power) (replica .0)) _ _ tt refl
+  plan-adds held (Resend client) = whichever (OutcomeAdds []) (s .party .stopped) _ _ tt (resend-adds client (s .party .work))
+  plan-adds held (Stop client) = whichever (OutcomeAdds []) (s .party .stopped) _ _ tt refl
+  plan-adds held (Off replica) = whichever (OutcomeAdds []) (hasReplica (s .power) (replica .0)) _ _ refl tt
+  plan-adds held (On replica) = whichever (OutcomeAdds []) (hasReplica (s .power) (replica .0)) _ _ tt refl
   plan-adds held Unknown = tt
 
 -- ---- a run

@@ -37,7 +37,7 @@ use Rattle.method.specs.Plan.{keptCounts, keptIn, keptOf, deliverIn, deliverOf,
 use Rattle.rack.specs.Sound.{heldFits}
 use Rattle.method.specs.About.{clientIn, clientOf}
 use Rattle.rack.specs.Run.{inRack}
-use Rattle.method.specs.laws.Tests.{and-left, and-right}
+use Rattle.method.specs.laws.Tests.{and-left, and-right, whichever}
 use Rattle.rack.specs.laws.SoundLaws.{named}
 use Rattle.back.specs.Standing.{openFor, openIn, Within, PairSmall, BodySmall, HeldSmall, GoalSmall, WorkSmall, EventSmall}
 
@@ -91,11 +91,6 @@ abbrev pub OutcomeKeeps : Sizes → ℕ → ℕ → Outcome → Type 0
 OutcomeKeeps z k before (No n) = Unit {0}
 OutcomeKeeps z k before (Go p) = Keeps z k before p
 
--- a branch: both ways
-either : (z : Sizes) (k before : ℕ) (t : Bool) (a b : Outcome) → OutcomeKeeps z k before a → OutcomeKeeps z k before b → OutcomeKeeps z k before (cond t a b)
-either z k before true a b p q = p
-either z k before false a b p q = q
-
 -- ---- pairs
 
 raised-small : (p q : Pair) → PairSmall p → PairSmall q → PairSmall (raised p q)
@@ -130,10 +125,10 @@ module _ (z : Sizes) (power : ℕ) (party : Party) (pair : Pair) (work : WorkSma
   start-keeps : (client : Client) (cell : Cell) (goal : Goal) (entry : Entry) → GoalSmall goal → Enters z (client .0) 0 entry (openFor goal)
       → OutcomeKeeps z (client .0) has (startOf seen client cell goal entry)
   unfolding startOf startIn started
-  start-keeps client cell goal entry hg h = either z (client .0) has (party .stopped) _ _ tt (go (party .work))
+  start-keeps client cell goal entry hg h = whichever (OutcomeKeeps z (client .0) has) (party .stopped) _ _ tt (go (party .work))
     where
       go : (w : Work) → OutcomeKeeps z (client .0) (openIn w) (startIn w seen (party .op) client cell goal entry)
-      go Idle = either z (client .0) 0 (eqb (party .op) 65535) _ _ tt (record { note = h; work = (hg, record { sfits = omega arith }); pair = here; body = tt })
+      go Idle = whichever (OutcomeKeeps z (client .0) 0) (eqb (party .op) 65535) _ _ tt (record { note = h; work = (hg, record { sfits = omega arith }); pair = here; body = tt })
       go (Asking y g set q) = tt
       go (Keeping y g set q) = tt
 
@@ -158,7 +153,7 @@ module _ (z : Sizes) (power : ℕ) (party : Party) (pair : Pair) (work : WorkSma
         → OutcomeKeeps z (m .client .0) has (phaseEnds goal seen m cell held)
     unfolding phaseEnds
     phase-keeps Read cell held o hg hp = moves cell Read held o hp
-    phase-keeps (Write v) cell held o hg hp = either z (m .client .0) has (eqb (held .stamp .number) 4294967295) _ _ tt (moves cell (Write v) (written (m .client) v held) o hg)
+    phase-keeps (Write v) cell held o hg hp = whichever (OutcomeKeeps z (m .client .0) has) (eqb (held .stamp .number) 4294967295) _ _ tt (moves cell (Write v) (written (m .client) v held) o hg)
 
     tell-in-keeps : (q : Pair) → PairSmall q → (w : Work) → WorkSmall w → openIn w ≡ has → OutcomeKeeps z (m .client .0) has (tellIn w seen m q)
     unfolding tellIn tellCounts
@@ -166,14 +161,14 @@ module _ (z : Sizes) (power : ℕ) (party : Party) (pair : Pair) (work : WorkSma
     tell-in-keeps q hq (Asking cell goal set held) hw o =
         let next : ℕ = withReplica set (m .replica .0) in
         let h : PairSmall (holds set held q) = holds-small set held q (hw .1) hq in
-        either z (m .client .0) has (hasReplica set (m .replica .0)) _ _ used-keeps
-        (either z (m .client .0) has (asksEnough (z .replicas) next) _ _ (phase-keeps goal cell (holds set held q) o (hw .0) h)
+        whichever (OutcomeKeeps z (m .client .0) has) (hasReplica set (m .replica .0)) _ _ used-keeps
+        (whichever (OutcomeKeeps z (m .client .0) has) (asksEnough (z .replicas) next) _ _ (phase-keeps goal cell (holds set held q) o (hw .0) h)
         (record { note = o; work = (hw .0, h); pair = here; body = small }))
     tell-in-keeps q hq (Keeping cell goal set held) hw o = used-keeps
 
     tell-keeps : (q : Pair) → PairSmall q → OutcomeKeeps z (m .client .0) has (tellOf seen m q)
     unfolding tellOf
-    tell-keeps q hq = either z (m .client .0) has (current party m) _ _ (tell-in-keeps q hq (party .work) work refl) used-keeps
+    tell-keeps q hq = whichever (OutcomeKeeps z (m .client .0) has) (current party m) _ _ (tell-in-keeps q hq (party .work) work refl) used-keeps
 
     -- the entry that ends an operation is the one that its goal calls for
     last-enters : (goal : Goal) (held : Pair) → openFor goal ≡ has → PairSmall held → Enters z (m .client .0) has (lastEntry goal (m .client) held) 0
@@ -186,27 +181,27 @@ module _ (z : Sizes) (power : ℕ) (party : Party) (pair : Pair) (work : WorkSma
     kept-in-keeps Idle hw o = used-keeps
     kept-in-keeps (Asking cell goal set held) hw o = used-keeps
     kept-in-keeps (Keeping cell goal set held) hw o =
-        either z (m .client .0) has (hasReplica set (m .replica .0)) _ _ used-keeps
-        (either z (m .client .0) has (keepsEnough (z .replicas) (withReplica set (m .replica .0))) _ _
+        whichever (OutcomeKeeps z (m .client .0) has) (hasReplica set (m .replica .0)) _ _ used-keeps
+        (whichever (OutcomeKeeps z (m .client .0) has) (keepsEnough (z .replicas) (withReplica set (m .replica .0))) _ _
         (record { note = last-enters goal held o hw; work = tt; pair = here; body = small })
         (record { note = o; work = hw; pair = here; body = small }))
 
     kept-keeps : OutcomeKeeps z (m .client .0) has (keptOf seen m)
     unfolding keptOf
-    kept-keeps = either z (m .client .0) has (current party m) _ _ (kept-in-keeps (party .work) work refl) used-keeps
+    kept-keeps = whichever (OutcomeKeeps z (m .client .0) has) (current party m) _ _ (kept-in-keeps (party .work) work refl) used-keeps
 
     deliver-keeps : (b : Body) → BodySmall b → OutcomeKeeps z (m .client .0) has (deliverIn b seen m)
     unfolding deliverIn askOf keepOf
-    deliver-keeps Ask hb = either z (m .client .0) has (hasReplica power (m .replica .0)) _ _ (answered-keeps pair (Tell pair) here here) tt
+    deliver-keeps Ask hb = whichever (OutcomeKeeps z (m .client .0) has) (hasReplica power (m .replica .0)) _ _ (answered-keeps pair (Tell pair) here here) tt
     deliver-keeps (Tell q) hb = tell-keeps q hb
-    deliver-keeps (Keep q) hb = either z (m .client .0) has (hasReplica power (m .replica .0)) _ _ (answered-keeps (raised pair q) Kept (raised-small pair q here hb) tt) tt
+    deliver-keeps (Keep q) hb = whichever (OutcomeKeeps z (m .client .0) has) (hasReplica power (m .replica .0)) _ _ (answered-keeps (raised pair q) Kept (raised-small pair q here hb) tt) tt
     deliver-keeps Kept hb = kept-keeps
 
   -- ---- resend, stop, power
 
   resend-keeps : (k : ℕ) (client : Client) → OutcomeKeeps z k has (resendOf seen client)
   unfolding resendOf resendIn
-  resend-keeps k client = either z k has (party .stopped) _ _ tt (go (party .work) work)
+  resend-keeps k client = whichever (OutcomeKeeps z k has) (party .stopped) _ _ tt (go (party .work) work)
     where
       go : (w : Work) → WorkSmall w → OutcomeKeeps z k has (resendIn w seen client)
       go Idle hw = tt
@@ -215,7 +210,7 @@ module _ (z : Sizes) (power : ℕ) (party : Party) (pair : Pair) (work : WorkSma
 
   stop-keeps : (k : ℕ) → OutcomeKeeps z k has (stopOf seen)
   unfolding stopOf
-  stop-keeps k = either z k has (party .stopped) _ _ tt (record { note = refl; work = work; pair = here; body = tt })
+  stop-keeps k = whichever (OutcomeKeeps z k has) (party .stopped) _ _ tt (record { note = refl; work = work; pair = here; body = tt })
 
   powered-keeps : (k after : ℕ) → OutcomeKeeps z k has (powered seen after)
   unfolding powered
@@ -244,6 +239,6 @@ module _ (z : Sizes) (power : ℕ) (party : Party) (pair : Pair) (work : WorkSma
   plan-keeps (Full m) hh hs (Copy slot) i v = copy-keeps m (named z m hh .client) hs
   plan-keeps held hh hs (Resend client) i v = resend-keeps (client .0) client
   plan-keeps held hh hs (Stop client) i v = stop-keeps (client .0)
-  plan-keeps held hh hs (Off replica) i v = either z 0 has (hasReplica power (replica .0)) _ _ (powered-keeps 0 _) tt
-  plan-keeps held hh hs (On replica) i v = either z 0 has (hasReplica power (replica .0)) _ _ tt (powered-keeps 0 _)
+  plan-keeps held hh hs (Off replica) i v = whichever (OutcomeKeeps z 0 has) (hasReplica power (replica .0)) _ _ (powered-keeps 0 _) tt
+  plan-keeps held hh hs (On replica) i v = whichever (OutcomeKeeps z 0 has) (hasReplica power (replica .0)) _ _ tt (powered-keeps 0 _)
   plan-keeps held hh hs Unknown i v = tt

@@ -7,7 +7,7 @@ use Rattle.chains.specs.Chains.{Again}
 use Rattle.chains.specs.Table.{Chained}
 
 -- a test says whether P holds
-pub record Tells (P : Type 0) (r : Bool) : Type 0 where
+pub record Decides (P : Type 0) (r : Bool) : Type 0 where
   pub yes : r ≡ true → P
   pub no : r ≡ false → P → ⊥
 

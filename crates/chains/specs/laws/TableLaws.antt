@@ -71,12 +71,12 @@ module _ {kinds cells values : List ℕ} where
   one-table s t = (λ h l. one-latest (s .heads h l) (t .heads h l), λ p l w. one-latest (s .nexts p l w) (t .nexts p l w))
 
 -- in an array of zeros everything is 0, past its end too
-zeros : (n i : ℕ) → _≡_ {A = ℕ} (getD (replicate n 0) i 0) 0
-zeros n i = elim (decLt i n) [
+pub zero-at : (n i : ℕ) → _≡_ {A = ℕ} (getD (replicate n 0) i 0) 0
+zero-at n i = elim (decLt i n) [
   | yes l ↦ getD-replicate n i 0 0 l
   | no q ↦ List·getD-eq-default (replicate n 0) 0 (rw length-replicate (omega (arith, q)))
 ]
 
 -- arrays of zeros are an empty table
 pub empty-zeros : Empty (replicate 4096 0) (replicate 2048 0)
-empty-zeros = record { head-long = length-replicate {A = ℕ} 4096 0; next-long = length-replicate {A = ℕ} 2048 0; no-heads = zeros 4096 }
+empty-zeros = record { head-long = length-replicate {A = ℕ} 4096 0; next-long = length-replicate {A = ℕ} 2048 0; no-heads = zero-at 4096 }

@@ -8,6 +8,7 @@ use native.Mathlib.Decide.{decLt, ℕ-discrete}
 use lib.ListN.{length, getD, set, length-set, replicate, length-replicate, getD-replicate, List·getD-eq-default}
 use lib.Seq.{getD-set-same, getD-set-other}
 use borrow.Author.Tests.{ne-eqb}
+use Rattle.chains.specs.laws.TableLaws.{zero-at}
 use Rattle.clusters.specs.laws.Arrays.{Arrays, kindAt, cellAt, valueAt, startAt, IsWrite, Asked, Sources, Tally, Ready, Taking, OwnNumbers, far, stopOf, Scattering}
 use Rattle.clusters.specs.laws.Passing.{greatest-start, greatest-skip, greatest-step, least-start, least-same, least-skip, least-step, sources-start, sources-skip}
 use Rattle.clusters.specs.laws.Passing.{sources-found, sources-mark}
@@ -33,12 +34,6 @@ own-end i n most o l = record { long = o .long; own = λ j b. o .own j (omega ar
 
 -- ---- before the first entry
 
-zeros : (n i : ℕ) → _≡_ {A = ℕ} (getD (replicate n 0) i 0) 0
-zeros n i = elim (decLt i n) [
-  | yes l ↦ getD-replicate n i 0 0 l
-  | no q ↦ List·getD-eq-default (replicate n 0) 0 (rw length-replicate (omega (arith, q)))
-]
-
 pub tally-none-yet : (a : Arrays) (n : ℕ) (most : List ℕ) → n ≤ 2048 → OwnNumbers n most → Tally a n 0 (replicate 2048 65535) most (replicate 16 0) (replicate 16 0)
 tally-none-yet a n most few o =
     record {
@@ -48,8 +43,8 @@ tally-none-yet a n most few o =
       bad-long = length-replicate {A = ℕ} 16 0;
       lows = least-start (λ w i. getD-replicate 2048 w 65535 0 (omega (arith, i .0)));
       highs = greatest-start (λ w i. o .own w (i .0));
-      zeros = greatest-start (λ c b. zeros 16 c);
-      marks = sources-start (zeros 16);
+      zeros = greatest-start (λ c b. zero-at 16 c);
+      marks = sources-start (zero-at 16);
     }
 
 -- ---- one entry

@@ -43,6 +43,7 @@ use Rattle.rack.specs.laws.Decided.{lookedHeld, lookedClient, lookedParty, look
 use Rattle.rack.specs.Counts.{sentBy, deliveredBy}
 use Rattle.counts.specs.laws.Costing.{requests-else, requests-own, none-sent, silent, answers, start-cost, phase-cost, same-cost}
 use Rattle.counts.specs.Counts.{copiedBy, lostBy, isRequest, requestsBy, resentBy, costIn, costOf, endsBy}
+use Rattle.method.specs.laws.Tests.{whichever}
 
 -- ---- plans
 
@@ -88,12 +89,6 @@ module _ (n : ℕ) (few : n ≤ setBits) (power : ℕ) (party : Party) (pair : P
   abbrev seen : Sight
   seen = record { replicas = n; power = power; party = party; pair = pair }
 
-  -- a branch: both ways
-  either : (client : ℕ) (e : Event) (t : Bool) (a b : Outcome) → OutcomeCounts n client party e a → OutcomeCounts n client party e b
-      → OutcomeCounts n client party e (cond t a b)
-  either client e true a b p q = p
-  either client e false a b p q = q
-
   to-all : ones (everyReplica n) ≡ n
   to-all = every-count n few
 
@@ -121,10 +116,10 @@ module _ (n : ℕ) (few : n ≤ setBits) (power : ℕ) (party : Party) (pair : P
       → deliveredBy e + lostBy e ≡ 0 → copiedBy e ≡ 0 → ((p : Plan) → sentBy e p ≡ ones (p .to)) → ((c k : ℕ) (p : Plan) → resentBy c k e p ≡ 0)
       → OutcomeCounts n (client .0) party e (startOf seen client cell goal entry)
   unfolding startOf startIn
-  start-counts e client cell goal entry entries d c s r = either (client .0) e (party .stopped) _ _ tt (go (party .work) refl)
+  start-counts e client cell goal entry entries d c s r = whichever (OutcomeCounts n (client .0) party e) (party .stopped) _ _ tt (go (party .work) refl)
     where
       go : (w : Work) → party .work ≡ w → OutcomeCounts n (client .0) party e (startIn w seen (party .op) client cell goal entry)
-      go Idle h = either (client .0) e (eqb (party .op) 65535) _ _ tt (started-counts e client cell goal entry h entries d c s r)
+      go Idle h = whichever (OutcomeCounts n (client .0) party e) (eqb (party .op) 65535) _ _ tt (started-counts e client cell goal entry h entries d c s r)
       go (Asking y g set q) h = tt
       go (Keeping y g set q) h = tt
 
@@ -184,7 +179,7 @@ module _ (n : ℕ) (few : n ≤ setBits) (power : ℕ) (party : Party) (pair : P
     unfolding phaseEnds
     phase-counts Read cell old set was held at = keeps-counts cell Read old set was held at
     phase-counts (Write v) cell old set was held at =
-        either (m .client .0) (Deliver slot) (eqb (held .stamp .number) 4294967295) _ _ tt (keeps-counts cell (Write v) old set was _ at)
+        whichever (OutcomeCounts n (m .client .0) party (Deliver slot)) (eqb (held .stamp .number) 4294967295) _ _ tt (keeps-counts cell (Write v) old set was _ at)
 
     -- the client is in the same phase, with another set
     stays-counts : (work : Work) → costIn n work ≡ costIn n (party .work) → owes work ≡ owes (party .work)
@@ -198,8 +193,8 @@ module _ (n : ℕ) (few : n ≤ setBits) (power : ℕ) (party : Party) (pair : P
     unfolding tellIn tellCounts costIn owes
     tell-counts q Idle at = used
     tell-counts q (Asking cell goal set held) at =
-        either (m .client .0) (Deliver slot) (hasReplica set (m .replica .0)) _ _ used
-        (either (m .client .0) (Deliver slot) (asksEnough n (withReplica set (m .replica .0))) _ _ (phase-counts goal cell goal set held _ at)
+        whichever (OutcomeCounts n (m .client .0) party (Deliver slot)) (hasReplica set (m .replica .0)) _ _ used
+        (whichever (OutcomeCounts n (m .client .0) party (Deliver slot)) (asksEnough n (withReplica set (m .replica .0))) _ _ (phase-counts goal cell goal set held _ at)
         (stays-counts _ (sym (ap (costIn n) at)) (sym (ap owes at))))
     tell-counts q (Keeping cell goal set held) at = used
 
@@ -223,16 +218,16 @@ module _ (n : ℕ) (few : n ≤ setBits) (power : ℕ) (party : Party) (pair : P
     kept-counts Idle at = used
     kept-counts (Asking cell goal set held) at = used
     kept-counts (Keeping cell goal set held) at =
-        either (m .client .0) (Deliver slot) (hasReplica set (m .replica .0)) _ _ used
-        (either (m .client .0) (Deliver slot) (keepsEnough n (withReplica set (m .replica .0))) _ _ (last-counts cell goal set held at)
+        whichever (OutcomeCounts n (m .client .0) party (Deliver slot)) (hasReplica set (m .replica .0)) _ _ used
+        (whichever (OutcomeCounts n (m .client .0) party (Deliver slot)) (keepsEnough n (withReplica set (m .replica .0))) _ _ (last-counts cell goal set held at)
         (stays-counts _ (sym (ap (costIn n) at)) (sym (ap owes at))))
 
     deliver-counts : (b : Body) → Counts (Deliver slot) (deliverIn b seen m)
     unfolding deliverIn askOf keepOf tellOf keptOf isRequest
-    deliver-counts Ask = either (m .client .0) (Deliver slot) (hasReplica power (m .replica .0)) _ _ (answered-counts pair (Tell pair) refl) tt
-    deliver-counts (Tell q) = either (m .client .0) (Deliver slot) (current party m) _ _ (tell-counts q (party .work) refl) used
-    deliver-counts (Keep q) = either (m .client .0) (Deliver slot) (hasReplica power (m .replica .0)) _ _ (answered-counts _ Kept refl) tt
-    deliver-counts Kept = either (m .client .0) (Deliver slot) (current party m) _ _ (kept-counts (party .work) refl) used
+    deliver-counts Ask = whichever (OutcomeCounts n (m .client .0) party (Deliver slot)) (hasReplica power (m .replica .0)) _ _ (answered-counts pair (Tell pair) refl) tt
+    deliver-counts (Tell q) = whichever (OutcomeCounts n (m .client .0) party (Deliver slot)) (current party m) _ _ (tell-counts q (party .work) refl) used
+    deliver-counts (Keep q) = whichever (OutcomeCounts n (m .client .0) party (Deliver slot)) (hasReplica power (m .replica .0)) _ _ (answered-counts _ Kept refl) tt
+    deliver-counts Kept = whichever (OutcomeCounts n (m .client .0) party (Deliver slot)) (current party m) _ _ (kept-counts (party .work) refl) used
 
     copy-counts : m .replica .0 < setBits → Counts (Copy slot) (copyOf seen m)
     unfolding copyOf freed deliveredBy lostBy sentBy copiedBy
@@ -255,7 +250,7 @@ module _ (n : ℕ) (few : n ≤ setBits) (power : ℕ) (party : Party) (pair : P
 
   resend-counts : (client : Client) → OutcomeCounts n (client .0) party (Resend client) (resendOf seen client)
   unfolding resendOf resendIn
-  resend-counts client = either (client .0) (Resend client) (party .stopped) _ _ tt (go (party .work))
+  resend-counts client = whichever (OutcomeCounts n (client .0) party (Resend client)) (party .stopped) _ _ tt (go (party .work))
     where
       go : (w : Work) → OutcomeCounts n (client .0) party (Resend client) (resendIn w seen client)
       go Idle = tt
@@ -266,7 +261,7 @@ module _ (n : ℕ) (few : n ≤ setBits) (power : ℕ) (party : Party) (pair : P
   unfolding stopOf freed deliveredBy lostBy sentBy copiedBy
   stop-counts client name =
       let z : ones 0 ≡ 0 = none-count in
-      either client (Stop name) (party .stopped) _ _ tt
+      whichever (OutcomeCounts n client party (Stop name)) (party .stopped) _ _ tt
       (quiet client (Stop name) _ refl (omega arith) refl refl refl refl (λ c k. silent c k (Stop name) _ z))
 
   -- a replica is switched
@@ -291,8 +286,8 @@ module _ (n : ℕ) (few : n ≤ setBits) (power : ℕ) (party : Party) (pair : P
   plan-counts (Full m) h (Copy slot) = copy-counts m slot (h m refl)
   plan-counts held h (Resend client) = resend-counts client
   plan-counts held h (Stop client) = stop-counts (client .0) client
-  plan-counts held h (Off replica) = either 0 (Off replica) (hasReplica power (replica .0)) _ _ (powered-counts 0 (Off replica) _ refl refl) tt
-  plan-counts held h (On replica) = either 0 (On replica) (hasReplica power (replica .0)) _ _ tt (powered-counts 0 (On replica) _ refl refl)
+  plan-counts held h (Off replica) = whichever (OutcomeCounts n 0 party (Off replica)) (hasReplica power (replica .0)) _ _ (powered-counts 0 (Off replica) _ refl refl) tt
+  plan-counts held h (On replica) = whichever (OutcomeCounts n 0 party (On replica)) (hasReplica power (replica .0)) _ _ tt (powered-counts 0 (On replica) _ refl refl)
   plan-counts held h Unknown = tt
 
 -- ---- an event that is done

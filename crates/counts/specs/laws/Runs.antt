@@ -18,6 +18,7 @@ use Rattle.rack.specs.Run.{eventOf, decided, appliedOf, turn, ranOf, runFrom, r
 use Rattle.rack.specs.Counts.{counted, countOver}
 use Rattle.runs.specs.laws.Steps.{sound-from, run-steps}
 use Rattle.counts.specs.Counts.{countOf}
+use Rattle.method.specs.laws.Tests.{whichever}
 
 -- ---- two counts at once
 
@@ -105,13 +106,9 @@ unsound-none f r allowance ws u =
 
 -- ---- the maker
 
-either : (P : Made → Type 0) (t : Bool) (a b : Made) → P a → P b → P (cond t a b)
-either P true a b p q = p
-either P false a b p q = q
-
 -- what the maker gives is a fresh rack
 pub made-fresh : (P : Rack → Type 0) → ((replicas clients cells : ℕ) → P (freshRack replicas clients cells)) → (replicas clients cells : ℕ)
     → P (madeOf replicas clients cells .rack)
 unfolding madeOf
 made-fresh P f replicas clients cells =
-    either (λ (m : Made). P (m .rack)) (sizesFit (record { replicas = replicas; clients = clients; cells = cells })) _ _ (f replicas clients cells) (f 1 1 1)
+    whichever (λ (m : Made). P (m .rack)) (sizesFit (record { replicas = replicas; clients = clients; cells = cells })) _ _ (f replicas clients cells) (f 1 1 1)

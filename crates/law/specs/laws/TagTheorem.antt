@@ -12,6 +12,7 @@ use borrow.Author.Tests.{eq-eqb, ne-eqb, eqb-true, eqb-false}
 use Rattle.law.specs.Operation.{Op}
 use Rattle.law.specs.Order.{In, Pairs, Before, after, Reads, Ordered, Lawful}
 use Rattle.law.specs.Part.{keepIf}
+use Rattle.law.specs.laws.Lists.{pairs-imp}
 use Rattle.law.specs.laws.Sort.{sort, sort-of, sort-in, First, sort-pairs}
 use Rattle.law.specs.Tags.{Chosen, Tagged}
 
@@ -91,11 +92,6 @@ kept-pairs R f (x ∷ xs) h = go (f x) (kept-pairs R f xs (h .1))
     go : (b : Bool) → Pairs R (kept f xs) → Pairs R (keepIf b x (kept f xs))
     go true r = (λ y m. h .0 y (kept-of f xs m .0), r)
     go false r = r
-
--- one relation of a list's pairs from another
-pairs-to : (Q R : Op → Op → Type 0) (l : List Op) → ((x y : Op) → In x l → In y l → Q x y → R x y) → Pairs Q l → Pairs R l
-pairs-to Q R [] f p = tt
-pairs-to Q R (x ∷ xs) f p = (λ y m. f x y (here refl) (there m) (p .0 y m), pairs-to Q R xs (λ a b m n. f a b (there m) (there n)) (p .1))
 
 after-write : (m : ℕ → ℤ) (x : Op) (c : ℕ) → x .write ≡ true → x .cell ≡ c → after m x c ≡ x .value
 after-write m x c w e = rw (w, eq-eqb (x .cell) c e)
@@ -381,8 +377,8 @@ module _ (s : List Op) (c : ℕ) (cells : (x : Op) → In x s → x .cell ≡ c)
           of = λ m. order-of m .0;
           all = λ m t. order-in (m, h .all m t);
           ended = λ m w. h .ended (order-of m) w;
-          once = pairs-to Then Differ order (λ a b m n. differ a b (order-of m) (order-of n)) sorted;
-          respects = pairs-to Then (λ x y. ¬ Before y x) order (λ a b m n. fair a b (order-of m) (order-of n)) sorted;
+          once = pairs-imp Then Differ order (λ a b m n. differ a b (order-of m) (order-of n)) sorted;
+          respects = pairs-imp Then (λ x y. ¬ Before y x) order (λ a b m n. fair a b (order-of m) (order-of n)) sorted;
           reads = runs order 0 (λ k. pos 0) begin;
         }
 

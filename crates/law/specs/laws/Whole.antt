@@ -7,7 +7,7 @@ use native.Mathlib.Omega.{arith}
 use native.Mathlib.Decide.{decLt}
 use Rattle.record.specs.declared.Entry.{Entry}
 use Rattle.record.specs.Legal.{Legal}
-use Rattle.record.specs.Below.{Bytes}
+use Rattle.number.specs.Below.{Bytes}
 use Rattle.record.specs.Record.{entries, recordOf}
 use Rattle.record.specs.laws.Trip.{reading-legal}
 use Rattle.law.specs.Operation.{Op, operations}

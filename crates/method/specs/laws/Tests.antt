@@ -1,7 +1,7 @@
--- What two tests in a row tell.
+-- What tests tell: two in a row, and one that chooses.
 use Prim.Native.Nat.{ℕ}
 use mathlib.Core.Path.{_≡_, refl}
-use mathlib.Core.Bool.{Bool, true, false, _&&_, _||_}
+use mathlib.Core.Bool.{Bool, true, false, cond, _&&_, _||_}
 use mathlib.Core.Logic.{_⊎_, inl, inr}
 use native.Mathlib.Omega.{arith}
 
@@ -31,3 +31,12 @@ or-left false b p = never p
 pub or-right : (a b : Bool) → b ≡ true → (a || b) ≡ true
 or-right true b p = refl
 or-right false b p = p
+
+-- what holds of both outcomes of a test holds of the one that it chooses
+pub either : {A : Type 0} (P : A → Type 0) (t : Bool) (a b : A) → (t ≡ true → P a) → (t ≡ false → P b) → P (cond t a b)
+either P true a b p q = p refl
+either P false a b p q = q refl
+
+-- the same, where neither leans on the test
+pub whichever : {A : Type 0} (P : A → Type 0) (t : Bool) (a b : A) → P a → P b → P (cond t a b)
+whichever P t a b p q = either P t a b (λ e. p) (λ e. q)

@@ -9,6 +9,7 @@ use lib.ListN.{length, drop, getD}
 use lib.Seq.{sets, length-sets}
 use lib.Dec.{ltb}
 use borrow.Author.Tests.{lt-ltb, le-ltb, le-leb, lt-leb, ltb-true, ltb-false}
+use Rattle.number.specs.Below.{Bytes}
 use Rattle.number.specs.Number.{groupsOf, numberBytes, numberAt, numberOf, taken, endsFirst, lastIsZero, fifthAbove, valueOf, fitsAt, putAnswer, putBytes}
 use Rattle.number.specs.declared.Number.the-variants.{Is, Refused}
 use Rattle.number.specs.declared.Put.the-variants.{Next, NoRoom}
@@ -52,24 +53,20 @@ groups-few (suc f) n = go (ltb n 128) refl (groups-few f (n / 128))
     go true e h = omega (arith, ap length (groups-small (suc f) n (ltb-true n 128 e)))
     go false e h = omega (arith, ap length (groups-more f n (ltb-false n 128 e)))
 
--- every element is a byte
-abbrev AllBytes : List ℕ → Type 0
-AllBytes bs = (i : ℕ) → getD bs i 0 < 256
-
-first-byte : (b : ℕ) (bs : List ℕ) → b < 256 → AllBytes bs → AllBytes (b ∷ bs)
+first-byte : (b : ℕ) (bs : List ℕ) → b < 256 → Bytes bs → Bytes (b ∷ bs)
 first-byte b bs h g zero = h
 first-byte b bs h g (suc i) = g i
 
-no-bytes : AllBytes []
+no-bytes : Bytes []
 no-bytes zero = omega arith
 no-bytes (suc i) = omega arith
 
-groups-bytes : (f n : ℕ) → n < top f → AllBytes (groupsOf f n)
+groups-bytes : (f n : ℕ) → n < top f → Bytes (groupsOf f n)
 unfolding top
 groups-bytes zero n h = rw (groups-small zero n (omega arith)) (first-byte n [] (omega arith) no-bytes)
 groups-bytes (suc f) n h = go (ltb n 128) refl (groups-bytes f (n / 128) (omega arith))
   where
-    go : (t : Bool) → ltb n 128 ≡ t → AllBytes (groupsOf f (n / 128)) → AllBytes (groupsOf (suc f) n)
+    go : (t : Bool) → ltb n 128 ≡ t → Bytes (groupsOf f (n / 128)) → Bytes (groupsOf (suc f) n)
     go true e ih = let small : n < 128 = ltb-true n 128 e in
         rw (groups-small (suc f) n small) (first-byte n [] (omega arith) no-bytes)
     go false e ih = rw (groups-more f n (ltb-false n 128 e)) (first-byte _ (groupsOf f (n / 128)) (omega arith) ih)
@@ -85,7 +82,7 @@ length-few = groups-few 4
 pub bytes-small : (n : ℕ) → n < 128 → numberBytes n ≡ n ∷ []
 bytes-small = groups-small 4
 
-pub bytes-below : (n : ℕ) → n < 2 ^ 32 → (i : ℕ) → getD (numberBytes n) i 0 < 256
+pub bytes-below : (n : ℕ) → n < 2 ^ 32 → Bytes (numberBytes n)
 unfolding top
 bytes-below n h = groups-bytes 4 n h
 

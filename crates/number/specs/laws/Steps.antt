@@ -130,8 +130,8 @@ module _ (f at b k l v : ℕ) (some : 1 ≤ k) (few : k ≤ suc f) (nz : v ≡ 0
   pushed false e = behind-more (eqb-false l 0 e) (ltb k (suc f)) refl
 
 -- what the bytes taken give, where f + 1 may be taken
-abbrev upTo : ℕ → ℕ → List ℕ → Number
-upTo f at bs = verdict f at (length bs) (lastOf bs) (valueOf bs)
+abbrev takenUpTo : ℕ → ℕ → List ℕ → Number
+takenUpTo f at bs = verdict f at (length bs) (lastOf bs) (valueOf bs)
 
 taken-few : (f : ℕ) (bs : List ℕ) → length (taken f bs) ≤ suc f
 unfolding taken
@@ -158,30 +158,30 @@ one-value (b ∷ []) h = omega arith
 one-value (b ∷ c ∷ bs) h = absurd (omega arith)
 
 -- a byte of 128 or more before those taken
-in-front : (f at b : ℕ) (ts : List ℕ) → 128 ≤ b → length ts ≤ suc f → push b (upTo f (at + 1) ts) ≡ upTo (suc f) at (b ∷ ts)
+in-front : (f at b : ℕ) (ts : List ℕ) → 128 ≤ b → length ts ≤ suc f → push b (takenUpTo f (at + 1) ts) ≡ takenUpTo (suc f) at (b ∷ ts)
 unfolding valueOf lastOf
 in-front f at b [] h few = push-refused b 21 _ (gives-21 f (at + 1) 0 128 0 (omega arith) (omega arith)) ∙ sym (gives-21 (suc f) at 1 b _ (omega arith) h)
 in-front f at b (c ∷ ts) h few =
     pushed f at b (length (c ∷ ts)) (lastOf (c ∷ ts)) (valueOf (c ∷ ts)) (omega arith) few (no-value (c ∷ ts) (omega arith)) (one-value (c ∷ ts)) (eqb (lastOf (c ∷ ts)) 0) refl
 
 -- one byte, below 128, which is 15 at most where no other may be taken
-alone : (f at b : ℕ) → b < 128 → (f ≡ 0 → b ≤ 15) → Is b (at + 1) ≡ upTo f at (b ∷ [])
+alone : (f at b : ℕ) → b < 128 → (f ≡ 0 → b ≤ 15) → Is b (at + 1) ≡ takenUpTo f at (b ∷ [])
 unfolding valueOf lastOf
 alone f at b h g = ap (λ (n : ℕ). Is n (at + 1)) (omega arith) ∙ sym (gives f at 1 b _ (λ x. h) (λ x. absurd (omega arith)) (λ x. g (omega arith)))
 
-read-up-to : (f at : ℕ) (bs : List ℕ) → readGo f at bs ≡ upTo f at (taken f bs)
+read-up-to : (f at : ℕ) (bs : List ℕ) → readGo f at bs ≡ takenUpTo f at (taken f bs)
 unfolding readGo taken valueOf lastOf
 read-up-to zero at [] = sym (gives-21 zero at 0 128 0 (omega arith) (omega arith))
 read-up-to zero at (b ∷ bs) = go (ltb 15 b) refl
   where
-    go : (t : Bool) → ltb 15 b ≡ t → cond t (Refused 23) (Is b (at + 1)) ≡ upTo zero at (b ∷ [])
+    go : (t : Bool) → ltb 15 b ≡ t → cond t (Refused 23) (Is b (at + 1)) ≡ takenUpTo zero at (b ∷ [])
     go true e = sym (gives-23 zero at 1 b _ refl (ltb-true 15 b e))
     go false e = alone zero at b (omega (arith, ltb-false 15 b e)) (λ x. ltb-false 15 b e)
 read-up-to (suc f) at [] = sym (gives-21 (suc f) at 0 128 0 (omega arith) (omega arith))
 read-up-to (suc f) at (b ∷ bs) = go (ltb b 128) refl (read-up-to f (at + 1) bs)
   where
-    go : (t : Bool) → ltb b 128 ≡ t → readGo f (at + 1) bs ≡ upTo f (at + 1) (taken f bs)
-        → cond t (Is b (at + 1)) (push b (readGo f (at + 1) bs)) ≡ upTo (suc f) at (cond t (b ∷ []) (b ∷ taken f bs))
+    go : (t : Bool) → ltb b 128 ≡ t → readGo f (at + 1) bs ≡ takenUpTo f (at + 1) (taken f bs)
+        → cond t (Is b (at + 1)) (push b (readGo f (at + 1) bs)) ≡ takenUpTo (suc f) at (cond t (b ∷ []) (b ∷ taken f bs))
     go true e ih = alone (suc f) at b (ltb-true b 128 e) (λ x. absurd (omega arith))
     go false e ih = ap (push b) ih ∙ in-front f at b (taken f bs) (ltb-false b 128 e) (taken-few f bs)
 

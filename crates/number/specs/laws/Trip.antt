@@ -14,6 +14,7 @@ use Rattle.number.specs.laws.NumberLaws.{top, top-least, groups-small, g
 use Rattle.number.specs.declared.Number.{Number}
 use Rattle.number.specs.declared.Number.the-variants.{Is, Refused}
 use Rattle.number.specs.Stands.{Stands}
+use Rattle.number.specs.Below.{Bytes}
 
 -- ---- what was written is read
 
@@ -52,11 +53,6 @@ unfolding top
 reads-small s at h g = sym (read-steps s at) ∙ ap (readGo 4 at) (drop-cons s at 0 h) ∙ last-read 4 at (getD s at 0) (drop (suc at) s) g (omega arith)
 
 -- ---- what is read was written
-
--- every byte is below 256
-abbrev Bytes : List ℕ → Type 0
-Bytes [] = Unit {0}
-Bytes (b ∷ bs) = (b < 256) × Bytes bs
 
 -- what reading found: the bytes are those that writing the number gives, then others
 record WasWritten (f at n next : ℕ) (bs : List ℕ) : Type 0 where
@@ -103,24 +99,23 @@ back (suc f) at n next (b ∷ bs) w p = go (ltb b 128) refl (readGo f (at + 1) b
         → ((n′ next′ : ℕ) (bs′ : List ℕ) → Bytes bs′ → readGo f (at + 1) bs′ ≡ Is n′ next′ → WasWritten f (at + 1) n′ next′ bs′) → WasWritten (suc f) at n next (b ∷ bs)
     go true e r q s ih = last (suc f) at b n next bs (ltb-true b 128 e) (omega (arith, ltb-true b 128 e, top-least f)) s
     go false e (Refused x) q s ih = never x n next s
-    go false e (Is m k) q s ih = longer f at b n next m k bs (ltb-false b 128 e) (w .0) (ih m k bs (w .1) q) (eqb m 0) refl s
+    go false e (Is m k) q s ih = longer f at b n next m k bs (ltb-false b 128 e) (w 0) (ih m k bs (λ i. w (suc i)) q) (eqb m 0) refl s
 
 -- the bytes from a place on are bytes
-bytes-from : (s : List ℕ) (at : ℕ) → ((i : ℕ) → getD s i 0 < 256) → Bytes (drop at s)
-bytes-from [] zero h = tt
-bytes-from [] (suc at) h = tt
-bytes-from (b ∷ s) zero h = (h 0, bytes-from s zero (λ i. h (suc i)))
+bytes-from : (s : List ℕ) (at : ℕ) → Bytes s → Bytes (drop at s)
+bytes-from s zero h = h
+bytes-from [] (suc at) h = h
 bytes-from (b ∷ s) (suc at) h = bytes-from s at (λ i. h (suc i))
 
 -- what is read of at most f + 1 bytes is below their limit: code that reads so wants to know that it fits
-pub read-below : (s : List ℕ) (f at n next : ℕ) → ((i : ℕ) → getD s i 0 < 256) → readGo f at (drop at s) ≡ Is n next → n < top f
+pub read-below : (s : List ℕ) (f at n next : ℕ) → Bytes s → readGo f at (drop at s) ≡ Is n next → n < top f
 read-below s f at n next h e = back f at n next (drop at s) (bytes-from s at h) e .below
 
 -- what stands after the bytes xs at place at
 pub drop-past : (s xs more : List ℕ) (at : ℕ) → drop at s ≡ xs ++ more → drop (at + length xs) s ≡ more
 drop-past s xs more at e = sym (drop-drop (length xs) at s) ∙ ap (drop (length xs)) e ∙ drop-append-seam xs more
 
-pub written-read : (s : List ℕ) (at n next : ℕ) → ((i : ℕ) → getD s i 0 < 256) → numberAt s at ≡ Is n next → Stands s at n next
+pub written-read : (s : List ℕ) (at n next : ℕ) → Bytes s → numberAt s at ≡ Is n next → Stands s at n next
 unfolding top
 written-read s at n next h e =
     let w = back 4 at n next (drop at s) (bytes-from s at h) (read-steps s at ∙ e) in

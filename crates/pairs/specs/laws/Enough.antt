@@ -8,7 +8,7 @@ use native.Mathlib.Omega.{arith}
 use lib.ListN.{length, take, drop, length-take}
 use lib.Dec.{ltb, eqb}
 use borrow.Author.Tests.{lt-ltb, le-ltb, ltb-true, ltb-false, eqb-false}
-use Rattle.number.specs.Number.{numberAt}
+use Rattle.number.specs.Number.{numberAt, andThen}
 use Rattle.number.specs.laws.Steps.{readGo, push, read-steps}
 use Rattle.number.specs.Value.{signedOf}
 use Rattle.number.specs.declared.Number.{Number}
@@ -18,7 +18,7 @@ use Rattle.record.specs.declared.Entry.the-variants.{ReadAsked, WriteAsked, Tol
 use Rattle.record.specs.declared.Found.{Found}
 use Rattle.record.specs.declared.Found.the-variants.{At, Fault}
 use Rattle.record.specs.declared.Standing.{Standing}
-use Rattle.record.specs.Entry.{upTo, andThen, fieldsAt, entryAt}
+use Rattle.record.specs.Entry.{upTo, fieldsAt, entryAt}
 use Rattle.record.specs.Record.{fresh, faultAfter, standingAfter, Held, entries, fault, before, enter, heldFrom, recordOf}
 use Rattle.record.specs.laws.EntryTrip.{went, passed}
 use Rattle.pairs.specs.Pairs.{byteLimit}
@@ -108,7 +108,7 @@ module _ (s : List ℕ) (at : ℕ) where
 
 -- ---- an entry
 
-and-then-same : (r : Number) (f g : ℕ → ℕ → Found) → ((n next : ℕ) → r ≡ Is n next → f n next ≡ g n next) → andThen r f ≡ andThen r g
+and-then-same : (r : Number) (f g : ℕ → ℕ → Found) → ((n next : ℕ) → r ≡ Is n next → f n next ≡ g n next) → andThen Fault r f ≡ andThen Fault r g
 unfolding andThen
 and-then-same (Refused k) f g h = refl
 and-then-same (Is n next) f g h = h n next refl
@@ -120,23 +120,23 @@ module _ (s : List ℕ) (m : ℕ) where
   fields-enough at kind client h = ap₂ (λ (x y : Found). cond (eqb kind 3) (At (Done (record { 0 = client })) at) (cond (eqb kind 2) x y)) told (asks ∙ valued)
     where
       written : List ℕ → ℕ → ℕ → Found
-      written t cell next = andThen (numberAt t next) (λ v last. At (WriteAsked (record { 0 = client }) (record { 0 = cell }) (signedOf v)) last)
+      written t cell next = andThen Fault (numberAt t next) (λ v last. At (WriteAsked (record { 0 = client }) (record { 0 = cell }) (signedOf v)) last)
 
       after : List ℕ → ℕ → ℕ → Found
       after t cell next = cond (eqb kind 0) (At (ReadAsked (record { 0 = client }) (record { 0 = cell })) next) (written t cell next)
 
-      told : andThen (numberAt (take m s) at) (λ v next. At (Told (record { 0 = client }) (signedOf v)) next)
-          ≡ andThen (numberAt s at) (λ v next. At (Told (record { 0 = client }) (signedOf v)) next)
-      told = ap (λ (r : Number). andThen r (λ v next. At (Told (record { 0 = client }) (signedOf v)) next)) (number-enough s at m (omega arith))
+      told : andThen Fault (numberAt (take m s) at) (λ v next. At (Told (record { 0 = client }) (signedOf v)) next)
+          ≡ andThen Fault (numberAt s at) (λ v next. At (Told (record { 0 = client }) (signedOf v)) next)
+      told = ap (λ (r : Number). andThen Fault r (λ v next. At (Told (record { 0 = client }) (signedOf v)) next)) (number-enough s at m (omega arith))
 
-      asks : andThen (upTo 15 25 (numberAt (take m s) at)) (after (take m s)) ≡ andThen (upTo 15 25 (numberAt s at)) (after (take m s))
-      asks = ap (λ (r : Number). andThen (upTo 15 25 r) (after (take m s))) (number-enough s at m (omega arith))
+      asks : andThen Fault (upTo 15 25 (numberAt (take m s) at)) (after (take m s)) ≡ andThen Fault (upTo 15 25 (numberAt s at)) (after (take m s))
+      asks = ap (λ (r : Number). andThen Fault (upTo 15 25 r) (after (take m s))) (number-enough s at m (omega arith))
 
-      valued : andThen (upTo 15 25 (numberAt s at)) (after (take m s)) ≡ andThen (upTo 15 25 (numberAt s at)) (after s)
+      valued : andThen Fault (upTo 15 25 (numberAt s at)) (after (take m s)) ≡ andThen Fault (upTo 15 25 (numberAt s at)) (after s)
       valued = and-then-same (upTo 15 25 (numberAt s at)) (after (take m s)) (after s) (λ cell next p.
           let e = limited-one s at 15 25 cell next (omega arith) p in
           ap (λ (r : Number). cond (eqb kind 0) (At (ReadAsked (record { 0 = client }) (record { 0 = cell })) next)
-          (andThen r (λ v last. At (WriteAsked (record { 0 = client }) (record { 0 = cell }) (signedOf v)) last)))
+          (andThen Fault r (λ v last. At (WriteAsked (record { 0 = client }) (record { 0 = cell }) (signedOf v)) last)))
           (number-enough s next m (omega arith)))
 
   -- reading an entry looks at eight bytes at most
@@ -145,15 +145,15 @@ module _ (s : List ℕ) (m : ℕ) where
   entry-enough at h = first ∙ and-then-same (upTo 3 24 (numberAt s at)) (after (take m s)) (after s) second
     where
       after : List ℕ → ℕ → ℕ → Found
-      after t kind next = andThen (upTo 7 25 (numberAt t next)) (λ client more. fieldsAt t more kind client)
+      after t kind next = andThen Fault (upTo 7 25 (numberAt t next)) (λ client more. fieldsAt t more kind client)
 
-      first : andThen (upTo 3 24 (numberAt (take m s) at)) (after (take m s)) ≡ andThen (upTo 3 24 (numberAt s at)) (after (take m s))
-      first = ap (λ (r : Number). andThen (upTo 3 24 r) (after (take m s))) (number-enough s at m (omega arith))
+      first : andThen Fault (upTo 3 24 (numberAt (take m s) at)) (after (take m s)) ≡ andThen Fault (upTo 3 24 (numberAt s at)) (after (take m s))
+      first = ap (λ (r : Number). andThen Fault (upTo 3 24 r) (after (take m s))) (number-enough s at m (omega arith))
 
       second : (kind next : ℕ) → upTo 3 24 (numberAt s at) ≡ Is kind next → after (take m s) kind next ≡ after s kind next
       second kind next p =
           let e = limited-one s at 3 24 kind next (omega arith) p in
-          ap (λ (r : Number). andThen (upTo 7 25 r) (λ client more. fieldsAt (take m s) more kind client)) (number-enough s next m (omega arith))
+          ap (λ (r : Number). andThen Fault (upTo 7 25 r) (λ client more. fieldsAt (take m s) more kind client)) (number-enough s next m (omega arith))
           ∙ and-then-same (upTo 7 25 (numberAt s next)) (λ client more. fieldsAt (take m s) more kind client) (λ client more. fieldsAt s more kind client)
           (λ client more q. let d = limited-one s next 7 25 client more (omega arith) q in fields-enough more kind client (omega arith))
 
@@ -167,7 +167,7 @@ module _ (s : List ℕ) where
     where
       write : (cell next : ℕ) → next ≡ at + 1 → (b : Bool)
           → cond b (At (ReadAsked (record { 0 = client }) (record { 0 = cell })) next)
-          (andThen (numberAt s next) (λ v last. At (WriteAsked (record { 0 = client }) (record { 0 = cell }) (signedOf v)) last)) ≡ At e last
+          (andThen Fault (numberAt s next) (λ v last. At (WriteAsked (record { 0 = client }) (record { 0 = cell }) (signedOf v)) last)) ≡ At e last
           → last ≤ at + 6
       write cell next h true q = let d = same-place q in omega arith
       write cell next h false q =
@@ -176,10 +176,10 @@ module _ (s : List ℕ) where
           omega (arith, number-far s next (w .n) (w .m) (w .is))
 
       go : (a b d : Bool) → cond a (At (Done (record { 0 = client })) at)
-          (cond b (andThen (numberAt s at) (λ v next. At (Told (record { 0 = client }) (signedOf v)) next))
-          (andThen (upTo 15 25 (numberAt s at)) (λ cell next.
+          (cond b (andThen Fault (numberAt s at) (λ v next. At (Told (record { 0 = client }) (signedOf v)) next))
+          (andThen Fault (upTo 15 25 (numberAt s at)) (λ cell next.
           cond d (At (ReadAsked (record { 0 = client }) (record { 0 = cell })) next)
-          (andThen (numberAt s next) (λ v last. At (WriteAsked (record { 0 = client }) (record { 0 = cell }) (signedOf v)) last))))) ≡ At e last
+          (andThen Fault (numberAt s next) (λ v last. At (WriteAsked (record { 0 = client }) (record { 0 = cell }) (signedOf v)) last))))) ≡ At e last
           → last ≤ at + 6
       go true b d q = let i = same-place q in omega arith
       go false true d q =

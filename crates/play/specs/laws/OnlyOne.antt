@@ -3,10 +3,10 @@ use Prim.Native.Nat.{ℕ}
 use mathlib.Core.Path.{_≡_, refl, sym, ap, _∙_}
 use mathlib.Core.List.{List, [], _∷_}
 use native.Mathlib.Omega.{arith}
-use Rattle.number.specs.Number.{numberAt, numberOf, taken, lastOf}
+use Rattle.number.specs.Number.{numberAt, numberOf, taken, lastOf, andThen}
 use Rattle.text.specs.Text.{digitsOf, Printed}
 use Rattle.text.specs.laws.OnlyOne.{only-one}
-use Rattle.script.specs.Script.{andThen, headOf, scriptOf}
+use Rattle.script.specs.Script.{headOf, scriptOf}
 use Rattle.rack.specs.declared.Ran.{Ran}
 use Rattle.rack.specs.Sound.{sizesFit}
 use Rattle.rack.specs.Run.{madeOf}

@@ -9,7 +9,7 @@ use Rattle.method.specs.declared.Party.{Party}
 use Rattle.rack.specs.declared.Made.{Made}
 use Rattle.stamps.specs.Stamp.{freshPair}
 use Rattle.rack.specs.Places.{slotLimit, empty, idle, partyAt, pairAt, pairPlace, heldAt}
-use Rattle.rack.specs.Sound.{sizesFit, pairFits, heldFits, workFits, owes, owedBy, owedBelow, owed, soundOf}
+use Rattle.rack.specs.Sound.{sizesFit, pairFits, heldFits, workFits, owes, owedBy, owedIn, owed, soundOf}
 use Rattle.rack.specs.Run.{freshRack, madeOf}
 use Rattle.rack.specs.laws.SoundLaws.{Sized, sized, rank-fits, of-sound}
 
@@ -40,8 +40,8 @@ module _ (replicas clients cells : ℕ) where
   unfolding workFits
   work i h = ap (λ (p : Party). workFits sizes (p .work)) (party i h)
 
-  nothing-owed : (n : ℕ) → n ≤ 8 → owedBelow n (freshRack replicas clients cells) ≡ 0
-  unfolding owedBelow owedBy owes
+  nothing-owed : (n : ℕ) → n ≤ 8 → owedIn n (freshRack replicas clients cells .parties) ≡ 0
+  unfolding owedIn owedBy owes
   nothing-owed zero h = refl
   nothing-owed (suc n) h =
       let e : owedBy (partyAt (freshRack replicas clients cells) n) ≡ 0 = ap owedBy (party n (omega arith)) in

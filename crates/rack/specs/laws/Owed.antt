@@ -13,17 +13,12 @@ use Rattle.method.specs.declared.Work.the-variants.{Idle, Asking, Keeping}
 use Rattle.method.specs.declared.Party.{Party}
 use Rattle.rack.specs.declared.Rack.{Rack}
 use Rattle.rack.specs.Places.{idle}
-use Rattle.rack.specs.Sound.{owes, owedBy, owedBelow, owed, owedIn}
-
-below-in : (n : ℕ) (r : Rack) → owedBelow n r ≡ owedIn n (r .parties)
-unfolding owedBelow owedIn
-below-in zero r = refl
-below-in (suc n) r = rw (below-in n r)
+use Rattle.rack.specs.Sound.{owes, owedBy, owedIn, owed}
 
 -- the answers that a rack owes are those of its clients
 pub owed-in : (r : Rack) → owed r ≡ owedIn (r .sizes .clients) (r .parties)
 unfolding owed
-owed-in r = below-in (r .sizes .clients) r
+owed-in r = refl
 
 -- a client owes one answer at most
 owes-most : (w : Work) → owes w ≤ 1

@@ -39,7 +39,7 @@ use Rattle.method.specs.Plan.{tellOf, keptCounts, keptIn, keptOf, deliverIn, de
 use Rattle.rack.specs.Places.{isEmpty}
 use Rattle.rack.specs.Sound.{pairFits, bodyFits, messageFits, heldFits, workFits, owes, owedBy}
 use Rattle.rack.specs.Run.{inRack, entriesIn}
-use Rattle.method.specs.laws.Tests.{never, and-left, and-right}
+use Rattle.method.specs.laws.Tests.{never, and-left, and-right, either}
 use Rattle.rack.specs.laws.SoundLaws.{Sized, rank-fits, Named, named, message-fits, ask-open, ask-fits, keep-open, keep-fits}
 
 -- places of the record that 11 has kept for an operation that starts: its entry and its answer
@@ -61,12 +61,6 @@ pub record PlanFits (z : Sizes) (party : Party) (held : Held) (p : Plan) : Type 
 abbrev pub OutcomeFits : Sizes → Party → Held → Outcome → Type 0
 OutcomeFits z party held (No k) = Unit {0}
 OutcomeFits z party held (Go p) = PlanFits z party held p
-
--- a branch: both ways
-either : (z : Sizes) (party : Party) (held : Held) (t : Bool) (a b : Outcome) → (t ≡ true → OutcomeFits z party held a)
-    → (t ≡ false → OutcomeFits z party held b) → OutcomeFits z party held (cond t a b)
-either z party held true a b p q = p refl
-either z party held false a b p q = q refl
 
 no-slot : (held : Held) → false ≡ true → isEmpty held ≡ false
 no-slot held e = never e
@@ -133,10 +127,10 @@ module _ (z : Sizes) (n : Sized z) (power : ℕ) (party : Party) (pair : Pair) (
   start-fits : (held : Held) (client : Client) (cell : Cell) (goal : Goal) (entry : Entry) → client .0 < z .clients → cell .0 < z .cells
       → OutcomeFits z party held (startOf seen client cell goal entry)
   unfolding startOf startIn
-  start-fits held client cell goal entry hc hx = either z party held (party .stopped) _ _ (λ e. tt) (λ e. go (party .work))
+  start-fits held client cell goal entry hc hx = either (OutcomeFits z party held) (party .stopped) _ _ (λ e. tt) (λ e. go (party .work))
     where
       go : (w : Work) → OutcomeFits z party held (startIn w seen (party .op) client cell goal entry)
-      go Idle = either z party held (eqb (party .op) 65535) _ _ (λ e. tt) (λ e. started-fits held (party .op) client cell goal entry hc hx)
+      go Idle = either (OutcomeFits z party held) (eqb (party .op) 65535) _ _ (λ e. tt) (λ e. started-fits held (party .op) client cell goal entry hc hx)
       go (Asking y g set q) = tt
       go (Keeping y g set q) = tt
 
@@ -200,14 +194,14 @@ module _ (z : Sizes) (n : Sized z) (power : ℕ) (party : Party) (pair : Pair) (
     unfolding phaseEnds
     ends-fit Read cell held hx hp o = keeps-fits cell Read held hx hp o
     ends-fit (Write v) cell held hx hp o =
-        either z party (Full m) (eqb (held .stamp .number) 4294967295) _ _ (λ e. tt)
+        either (OutcomeFits z party (Full m)) (eqb (held .stamp .number) 4294967295) _ _ (λ e. tt)
         (λ e. keeps-fits cell (Write v) (written (m .client) v held) hx (written-fits v held) o)
 
     tell-counts-fit : (cell : Cell) (goal : Goal) (set : ℕ) (held : Pair) → cell .0 < z .cells → within (z .replicas) set ≡ true
         → pairFits z held ≡ true → 1 ≤ owedBy party → OutcomeFits z party (Full m) (tellCounts seen m cell goal set held)
     unfolding tellCounts entriesIn owedBy owes
     tell-counts-fit cell goal set held hx hs hp o =
-        either z party (Full m) (asksEnough (z .replicas) set) _ _ (λ e. ends-fit goal cell held hx hp o)
+        either (OutcomeFits z party (Full m)) (asksEnough (z .replicas) set) _ _ (λ e. ends-fit goal cell held hx hp o)
         (λ e. record {
           work = ask-fits z cell goal set held (record { cell = hx; held = inr hp; set = hs; few = e });
           pair = here;
@@ -227,7 +221,7 @@ module _ (z : Sizes) (n : Sized z) (power : ℕ) (party : Party) (pair : Pair) (
     tell-in-fits q hq Idle hw o = used-fits
     tell-in-fits q hq (Asking cell goal set held) hw o =
         let a = ask-open z cell goal set held hw in
-        either z party (Full m) (hasReplica set (m .replica .0)) _ _ (λ e. used-fits)
+        either (OutcomeFits z party (Full m)) (hasReplica set (m .replica .0)) _ _ (λ e. used-fits)
         (λ e. tell-counts-fit cell goal (withReplica set (m .replica .0)) (holds set held q) (a .cell) (one-more set (a .set)) (holds-fits z set held q (a .held) hq) o)
     tell-in-fits q hq (Keeping cell goal set held) hw o = used-fits
 
@@ -240,13 +234,13 @@ module _ (z : Sizes) (n : Sized z) (power : ℕ) (party : Party) (pair : Pair) (
 
     tell-fits : (q : Pair) → pairFits z q ≡ true → OutcomeFits z party (Full m) (tellOf seen m q)
     unfolding tellOf
-    tell-fits q hq = either z party (Full m) (current party m) _ _ (λ e. tell-in-fits q hq (party .work) work (open-owes e)) (λ e. used-fits)
+    tell-fits q hq = either (OutcomeFits z party (Full m)) (current party m) _ _ (λ e. tell-in-fits q hq (party .work) work (open-owes e)) (λ e. used-fits)
 
     kept-counts-fit : (cell : Cell) (goal : Goal) (set : ℕ) (held : Pair) → cell .0 < z .cells → within (z .replicas) set ≡ true
         → pairFits z held ≡ true → 1 ≤ owedBy party → OutcomeFits z party (Full m) (keptCounts seen m cell goal set held)
     unfolding keptCounts entriesIn owedBy owes workFits
     kept-counts-fit cell goal set held hx hs hp o =
-        either z party (Full m) (keepsEnough (z .replicas) set) _ _
+        either (OutcomeFits z party (Full m)) (keepsEnough (z .replicas) set) _ _
         (λ e. record {
           work = refl;
           pair = here;
@@ -270,19 +264,19 @@ module _ (z : Sizes) (n : Sized z) (power : ℕ) (party : Party) (pair : Pair) (
     kept-in-fits (Asking cell goal set held) hw o = used-fits
     kept-in-fits (Keeping cell goal set held) hw o =
         let a = keep-open z cell goal set held hw in
-        either z party (Full m) (hasReplica set (m .replica .0)) _ _ (λ e. used-fits)
+        either (OutcomeFits z party (Full m)) (hasReplica set (m .replica .0)) _ _ (λ e. used-fits)
         (λ e. kept-counts-fit cell goal (withReplica set (m .replica .0)) held (a .cell) (one-more set (a .set)) (a .held) o)
 
     kept-fits : OutcomeFits z party (Full m) (keptOf seen m)
     unfolding keptOf
-    kept-fits = either z party (Full m) (current party m) _ _ (λ e. kept-in-fits (party .work) work (open-owes e)) (λ e. used-fits)
+    kept-fits = either (OutcomeFits z party (Full m)) (current party m) _ _ (λ e. kept-in-fits (party .work) work (open-owes e)) (λ e. used-fits)
 
     deliver-in-fits : (b : Body) → bodyFits z b ≡ true → OutcomeFits z party (Full m) (deliverIn b seen m)
     unfolding deliverIn bodyFits askOf keepOf
-    deliver-in-fits Ask hb = either z party (Full m) (hasReplica power (m .replica .0)) _ _ (λ e. answered-fits pair (Tell pair) here here) (λ e. tt)
+    deliver-in-fits Ask hb = either (OutcomeFits z party (Full m)) (hasReplica power (m .replica .0)) _ _ (λ e. answered-fits pair (Tell pair) here here) (λ e. tt)
     deliver-in-fits (Tell q) hb = tell-fits q hb
     deliver-in-fits (Keep q) hb =
-        either z party (Full m) (hasReplica power (m .replica .0)) _ _ (λ e. answered-fits (raised pair q) Kept (raised-fits z pair q here hb) refl) (λ e. tt)
+        either (OutcomeFits z party (Full m)) (hasReplica power (m .replica .0)) _ _ (λ e. answered-fits (raised pair q) Kept (raised-fits z pair q here hb) refl) (λ e. tt)
     deliver-in-fits Kept hb = kept-fits
 
     deliver-fits : OutcomeFits z party (Full m) (deliverOf seen m)
@@ -306,7 +300,7 @@ module _ (z : Sizes) (n : Sized z) (power : ℕ) (party : Party) (pair : Pair) (
 
   resend-fits : (held : Held) (client : Client) → client .0 < z .clients → OutcomeFits z party held (resendOf seen client)
   unfolding resendOf resendIn bodyFits
-  resend-fits held client hc = either z party held (party .stopped) _ _ (λ e. tt) (λ e. go (party .work) work)
+  resend-fits held client hc = either (OutcomeFits z party held) (party .stopped) _ _ (λ e. tt) (λ e. go (party .work) work)
     where
       go : (w : Work) → workFits z w ≡ true → OutcomeFits z party held (resendIn w seen client)
       go Idle hw = tt
@@ -322,7 +316,7 @@ module _ (z : Sizes) (n : Sized z) (power : ℕ) (party : Party) (pair : Pair) (
   stop-fits : (held : Held) → OutcomeFits z party held (stopOf seen)
   unfolding stopOf entriesIn owedBy
   stop-fits held =
-      either z party held (party .stopped) _ _ (λ e. tt)
+      either (OutcomeFits z party held) (party .stopped) _ _ (λ e. tt)
       (λ e. record { work = work; pair = here; to = to-none; message = nothing-sent; entries = omega arith; slot = no-slot held })
 
   powered-fits : (held : Held) (after : ℕ) → OutcomeFits z party held (powered seen after)
@@ -345,6 +339,6 @@ module _ (z : Sizes) (n : Sized z) (power : ℕ) (party : Party) (pair : Pair) (
   plan-fits (Full m) hh (Copy slot) i = copy-fits m (named z m hh)
   plan-fits held hh (Resend client) i = resend-fits held client (ltb-true (client .0) (z .clients) i)
   plan-fits held hh (Stop client) i = stop-fits held
-  plan-fits held hh (Off replica) i = either z party held (hasReplica power (replica .0)) _ _ (λ e. powered-fits held _) (λ e. tt)
-  plan-fits held hh (On replica) i = either z party held (hasReplica power (replica .0)) _ _ (λ e. tt) (λ e. powered-fits held _)
+  plan-fits held hh (Off replica) i = either (OutcomeFits z party held) (hasReplica power (replica .0)) _ _ (λ e. powered-fits held _) (λ e. tt)
+  plan-fits held hh (On replica) i = either (OutcomeFits z party held) (hasReplica power (replica .0)) _ _ (λ e. tt) (λ e. powered-fits held _)
   plan-fits held hh Unknown i = tt

@@ -36,6 +36,7 @@ use Rattle.rack.specs.Places.{roomOf}
 use Rattle.rack.specs.Sound.{owed}
 use Rattle.rack.specs.Run.{inRack, noted, freed, checked, decided}
 use Rattle.rack.specs.laws.Decided.{lookedHeld, sight}
+use Rattle.method.specs.laws.Tests.{whichever}
 
 -- ---- the plan's: 3 to 10, and 12
 
@@ -51,31 +52,27 @@ Refuses (Go p) = Unit {0}
 low : (k : ℕ) → 3 ≤ k → k ≤ 10 → Refuses (No k)
 low k h l = inl (h, l)
 
-either : (t : Bool) (a b : Outcome) → Refuses a → Refuses b → Refuses (cond t a b)
-either true a b p q = p
-either false a b p q = q
-
 start-in : (w : Work) (s : Sight) (op : ℕ) (client : Client) (cell : Cell) (goal : Goal) (entry : Entry) → Refuses (startIn w s op client cell goal entry)
 unfolding startIn started
-start-in Idle s op client cell goal entry = either (eqb op 65535) _ _ (low 10 (omega arith) (omega arith)) tt
+start-in Idle s op client cell goal entry = whichever Refuses (eqb op 65535) _ _ (low 10 (omega arith) (omega arith)) tt
 start-in (Asking y g set h) s op client cell goal entry = low 6 (omega arith) (omega arith)
 start-in (Keeping y g set h) s op client cell goal entry = low 6 (omega arith) (omega arith)
 
 start : (s : Sight) (client : Client) (cell : Cell) (goal : Goal) (entry : Entry) → Refuses (startOf s client cell goal entry)
 unfolding startOf
-start s client cell goal entry = either (s .party .stopped) _ _ (low 5 (omega arith) (omega arith)) (start-in (s .party .work) s (s .party .op) client cell goal entry)
+start s client cell goal entry = whichever Refuses (s .party .stopped) _ _ (low 5 (omega arith) (omega arith)) (start-in (s .party .work) s (s .party .op) client cell goal entry)
 
 ends : (g : Goal) (s : Sight) (m : Message) (cell : Cell) (held : Pair) → Refuses (phaseEnds g s m cell held)
 unfolding phaseEnds keepsOf
 ends Read s m cell held = tt
-ends (Write v) s m cell held = either (eqb (held .stamp .number) 4294967295) _ _ (inr refl) tt
+ends (Write v) s m cell held = whichever Refuses (eqb (held .stamp .number) 4294967295) _ _ (inr refl) tt
 
 tell-in : (w : Work) (s : Sight) (m : Message) (q : Pair) → Refuses (tellIn w s m q)
 unfolding tellIn tellCounts
 tell-in Idle s m q = tt
 tell-in (Asking cell goal set held) s m q =
-    either (hasReplica set (m .replica .0)) _ _ tt
-    (either (asksEnough (s .replicas) (withReplica set (m .replica .0))) _ _ (ends goal s m cell (holds set held q)) tt)
+    whichever Refuses (hasReplica set (m .replica .0)) _ _ tt
+    (whichever Refuses (asksEnough (s .replicas) (withReplica set (m .replica .0))) _ _ (ends goal s m cell (holds set held q)) tt)
 tell-in (Keeping cell goal set held) s m q = tt
 
 kept-in : (w : Work) (s : Sight) (m : Message) → Refuses (keptIn w s m)
@@ -83,14 +80,14 @@ unfolding keptIn keptCounts
 kept-in Idle s m = tt
 kept-in (Asking cell goal set held) s m = tt
 kept-in (Keeping cell goal set held) s m =
-    either (hasReplica set (m .replica .0)) _ _ tt (either (keepsEnough (s .replicas) (withReplica set (m .replica .0))) _ _ tt tt)
+    whichever Refuses (hasReplica set (m .replica .0)) _ _ tt (whichever Refuses (keepsEnough (s .replicas) (withReplica set (m .replica .0))) _ _ tt tt)
 
 deliver-in : (b : Body) (s : Sight) (m : Message) → Refuses (deliverIn b s m)
 unfolding deliverIn askOf tellOf keepOf keptOf
-deliver-in Ask s m = either (hasReplica (s .power) (m .replica .0)) _ _ tt (low 8 (omega arith) (omega arith))
-deliver-in (Tell q) s m = either (current (s .party) m) _ _ (tell-in (s .party .work) s m q) tt
-deliver-in (Keep q) s m = either (hasReplica (s .power) (m .replica .0)) _ _ tt (low 8 (omega arith) (omega arith))
-deliver-in Kept s m = either (current (s .party) m) _ _ (kept-in (s .party .work) s m) tt
+deliver-in Ask s m = whichever Refuses (hasReplica (s .power) (m .replica .0)) _ _ tt (low 8 (omega arith) (omega arith))
+deliver-in (Tell q) s m = whichever Refuses (current (s .party) m) _ _ (tell-in (s .party .work) s m q) tt
+deliver-in (Keep q) s m = whichever Refuses (hasReplica (s .power) (m .replica .0)) _ _ tt (low 8 (omega arith) (omega arith))
+deliver-in Kept s m = whichever Refuses (current (s .party) m) _ _ (kept-in (s .party .work) s m) tt
 
 resend-in : (w : Work) (s : Sight) (client : Client) → Refuses (resendIn w s client)
 unfolding resendIn
@@ -108,10 +105,10 @@ plan s Empty (Lose slot) = low 4 (omega arith) (omega arith)
 plan s (Full m) (Lose slot) = tt
 plan s Empty (Copy slot) = low 4 (omega arith) (omega arith)
 plan s (Full m) (Copy slot) = tt
-plan s held (Resend client) = either (s .party .stopped) _ _ (low 5 (omega arith) (omega arith)) (resend-in (s .party .work) s client)
-plan s held (Stop client) = either (s .party .stopped) _ _ (low 5 (omega arith) (omega arith)) tt
-plan s held (Off replica) = either (hasReplica (s .power) (replica .0)) _ _ tt (low 9 (omega arith) (omega arith))
-plan s held (On replica) = either (hasReplica (s .power) (replica .0)) _ _ (low 9 (omega arith) (omega arith)) tt
+plan s held (Resend client) = whichever Refuses (s .party .stopped) _ _ (low 5 (omega arith) (omega arith)) (resend-in (s .party .work) s client)
+plan s held (Stop client) = whichever Refuses (s .party .stopped) _ _ (low 5 (omega arith) (omega arith)) tt
+plan s held (Off replica) = whichever Refuses (hasReplica (s .power) (replica .0)) _ _ tt (low 9 (omega arith) (omega arith))
+plan s held (On replica) = whichever Refuses (hasReplica (s .power) (replica .0)) _ _ (low 9 (omega arith) (omega arith)) tt
 plan s held Unknown = low 3 (omega arith) (omega arith)
 
 pub plan-refuses : (s : Sight) (held : Held) (e : Event) (k : ℕ) → planOf s held e ≡ No k → PlanRefusal k

@@ -1,7 +1,8 @@
 -- `reader::read_entry` meets its contract. Assumes nothing.
 use mathlib.Core.Path.{sym, _∙_}
 use native.Mathlib.Omega.{arith}
-use Rattle.record.specs.Entry.{andThen, entryAt}
+use Rattle.record.specs.Entry.{entryAt}
+use Rattle.number.specs.Number.{andThen}
 use Rattle.record.specs.laws.EntryTrip.{passed}
 use borrow.Author.Needs.{needs}
 use Rattle.reader.proofs.read_entry.Statement.{statement}

@@ -2,7 +2,8 @@
 use mathlib.Core.Path.{sym, _∙_}
 use native.Mathlib.Omega.{arith}
 use borrow.Author.Tests.{eq-eqb, ne-eqb}
-use Rattle.record.specs.Entry.{andThen, fieldsAt}
+use Rattle.record.specs.Entry.{fieldsAt}
+use Rattle.number.specs.Number.{andThen}
 use Rattle.record.specs.laws.EntryTrip.{passed}
 use Rattle.number.specs.laws.ValueLaws.{signed-of-bits}
 use borrow.Author.Needs.{needs}

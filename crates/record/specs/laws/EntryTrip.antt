@@ -7,7 +7,7 @@ use native.Mathlib.Omega.{arith}
 use lib.ListN.{drop, length, length-append}
 use lib.Dec.{ltb}
 use borrow.Author.Tests.{le-ltb, ltb-false}
-use Rattle.number.specs.Number.{numberBytes, numberAt}
+use Rattle.number.specs.Number.{numberBytes, numberAt, andThen}
 use Rattle.number.specs.Value.{alternatingOf, signedOf}
 use Rattle.number.specs.laws.NumberLaws.{length-some, length-few, bytes-small, bytes-below}
 use Rattle.number.specs.laws.ValueLaws.{signed-alternating, alternating-signed, alternating-below, signed-fits}
@@ -19,9 +19,9 @@ use Rattle.record.specs.declared.Entry.{Entry}
 use Rattle.record.specs.declared.Entry.the-variants.{ReadAsked, WriteAsked, Told, Done}
 use Rattle.record.specs.declared.Found.{Found}
 use Rattle.record.specs.declared.Found.the-variants.{At, Fault}
-use Rattle.record.specs.Entry.{entryBytes, upTo, andThen, fieldsAt, entryAt}
+use Rattle.record.specs.Entry.{entryBytes, upTo, fieldsAt, entryAt}
 use Rattle.record.specs.Legal.{InRange}
-use Rattle.record.specs.Below.{Below, Bytes}
+use Rattle.number.specs.Below.{Below, Bytes}
 
 -- ---- what was written is read
 
@@ -97,7 +97,7 @@ pub record Went (r : Number) (go : ℕ → ℕ → Found) (e : Entry) (next : �
   pub on : go n m ≡ At e next
 
 -- an entry was read, so its number was, and the rest after it
-pub went : (r : Number) (go : ℕ → ℕ → Found) (e : Entry) (next : ℕ) → andThen r go ≡ At e next → Went r go e next
+pub went : (r : Number) (go : ℕ → ℕ → Found) (e : Entry) (next : ℕ) → andThen Fault r go ≡ At e next → Went r go e next
 unfolding andThen
 went (Refused k) go e next p = never p
 went (Is n m) go e next p = record { n = n; m = m; is = refl; on = p }
@@ -136,7 +136,7 @@ fields s at a b zero client e next h wk wc hc hk p =
       within = d .within;
     })
 fields s at a b (suc zero) client e next h wk wc hc hk p =
-    let w = went (upTo 15 25 (numberAt s b)) (λ cell c. andThen (numberAt s c) (λ v d. At (WriteAsked (record { 0 = client }) (record { 0 = cell }) (signedOf v)) d)) e next p in
+    let w = went (upTo 15 25 (numberAt s b)) (λ cell c. andThen Fault (numberAt s c) (λ v d. At (WriteAsked (record { 0 = client }) (record { 0 = cell }) (signedOf v)) d)) e next p in
     let q = passed 15 25 (w .n) (w .m) (numberAt s b) (w .is) in
     let d = written-read s b (w .n) (w .m) h (q .0) in
     let u = went (numberAt s (w .m)) (λ v x. At (WriteAsked (record { 0 = client }) (record { 0 = w .n }) (signedOf v)) x) e next (w .on) in
@@ -169,7 +169,7 @@ fields s at a b (suc (suc (suc (suc k)))) client e next h wk wc hc hk p = absurd
 pub written-entry : (s : List ℕ) (at : ℕ) (e : Entry) (next : ℕ) → Bytes s → entryAt s at ≡ At e next → WasWritten s at e next
 unfolding entryAt
 written-entry s at e next h p =
-    let w = went (upTo 3 24 (numberAt s at)) (λ kind a. andThen (upTo 7 25 (numberAt s a)) (λ client b. fieldsAt s b kind client)) e next p in
+    let w = went (upTo 3 24 (numberAt s at)) (λ kind a. andThen Fault (upTo 7 25 (numberAt s a)) (λ client b. fieldsAt s b kind client)) e next p in
     let q = passed 3 24 (w .n) (w .m) (numberAt s at) (w .is) in
     let u = went (upTo 7 25 (numberAt s (w .m))) (λ client b. fieldsAt s b (w .n) client) e next (w .on) in
     let r = passed 7 25 (u .n) (u .m) (numberAt s (w .m)) (u .is) in

@@ -5,7 +5,7 @@ use mathlib.Core.Path.{_≡_, ap, _∙_, sym}
 use native.Mathlib.Omega.{arith}
 use lib.ListN.{length}
 use lib.IntN.{pos}
-use Rattle.number.specs.Number.{groupsOf, taken, lastOf, valueOf, numberOf, numberAt}
+use Rattle.number.specs.Number.{groupsOf, taken, lastOf, valueOf, numberOf, numberAt, andThen}
 use Rattle.number.specs.Value.{alternatingOf, signedOf}
 use Rattle.record.specs.declared.Entry.{Entry}
 use Rattle.record.specs.declared.Entry.the-variants.{ReadAsked, WriteAsked, Done}
@@ -14,7 +14,7 @@ use Rattle.record.specs.declared.Found.the-variants.{At, Fault}
 use Rattle.record.specs.declared.Standing.{Standing}
 use Rattle.record.specs.declared.Answer.{Answer}
 use Rattle.record.specs.declared.Answer.the-variants.{All, Refused}
-use Rattle.record.specs.Entry.{entryBytes, upTo, andThen, fieldsAt, entryAt}
+use Rattle.record.specs.Entry.{entryBytes, upTo, fieldsAt, entryAt}
 use Rattle.record.specs.Record.{fresh, openBy, opened, faultAfter, standingAfter, recordOf, surveyOf}
 use Rattle.record.specs.Answers.{foundRefusal, foundNext, foundBytes, refusalIn, entryIn, countIn}
 use Rattle.record.specs.Examples.{sheetBytes}

@@ -7,7 +7,7 @@ use native.Mathlib.Omega.{arith}
 use lib.ListN.{length}
 use lib.Dec.{ltb, eqb}
 use borrow.Author.Tests.{eqb-true, eqb-false}
-use Rattle.number.specs.Number.{numberAt}
+use Rattle.number.specs.Number.{numberAt, andThen}
 use Rattle.number.specs.laws.NumberLaws.{refusal-bounds}
 use Rattle.number.specs.declared.Number.{Number}
 use Rattle.number.specs.declared.Number.the-variants as number
@@ -17,7 +17,7 @@ use Rattle.record.specs.declared.Found.{Found}
 use Rattle.record.specs.declared.Found.the-variants.{At, Fault}
 use Rattle.record.specs.declared.Standing.{Standing}
 use Rattle.record.specs.declared.Answer.the-variants.{Refused}
-use Rattle.record.specs.Entry.{upTo, andThen, fieldsAt, entryAt}
+use Rattle.record.specs.Entry.{upTo, fieldsAt, entryAt}
 use Rattle.record.specs.Record.{entryLimit, fresh, faultAfter, standingAfter, openBy, Held, entries, fault, before, heldFrom, recordOf}
 use Rattle.record.specs.laws.Steps.{ends, full, unread, misplaced, onward}
 use Rattle.record.specs.Named.{Named}
@@ -38,7 +38,7 @@ either k false a b f g p = g p
 
 -- the number is refused, or what follows it
 then-fault : (k : ℕ) (r : Number) (go : ℕ → ℕ → Found) → ((j : ℕ) → r ≡ number.Refused j → Within 21 j) → ((n next : ℕ) → go n next ≡ Fault k → Within 21 k)
-    → andThen r go ≡ Fault k → Within 21 k
+    → andThen Fault r go ≡ Fault k → Within 21 k
 unfolding andThen
 then-fault k (number.Refused j) go f g p = let e : j ≡ k = cc in subst (Within 21) e (f j refl)
 then-fault k (number.Is n next) go f g p = g n next p

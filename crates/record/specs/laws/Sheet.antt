@@ -2,12 +2,12 @@
 use mathlib.Core.List.{List, [], _∷_}
 use mathlib.Core.Path.{_≡_, refl}
 use lib.IntN.{pos}
-use Rattle.number.specs.Number.{taken, lastOf, valueOf, numberOf, numberAt}
+use Rattle.number.specs.Number.{taken, lastOf, valueOf, numberOf, numberAt, andThen}
 use Rattle.number.specs.Value.{signedOf}
 use Rattle.record.specs.declared.Entry.{Entry}
 use Rattle.record.specs.declared.Entry.the-variants.{ReadAsked, WriteAsked, Told, Done}
 use Rattle.record.specs.declared.Found.the-variants.{At, Fault}
-use Rattle.record.specs.Entry.{upTo, andThen, fieldsAt, entryAt}
+use Rattle.record.specs.Entry.{upTo, fieldsAt, entryAt}
 use Rattle.record.specs.Record.{faultAfter, standingAfter, entries, fault, before, enter, heldFrom, recordOf}
 use Rattle.record.specs.Examples.{sheetBytes}
 

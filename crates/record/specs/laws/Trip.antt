@@ -15,7 +15,7 @@ use Rattle.record.specs.declared.Standing.{Standing}
 use Rattle.record.specs.Entry.{entryBytes, entryAt}
 use Rattle.record.specs.Record.{entryLimit, fresh, standingAfter, entries, before, heldFrom, recordOf, allOf, bytesOf}
 use Rattle.record.specs.Legal.{InRange, Follows, Legal}
-use Rattle.record.specs.Below.{Below, Bytes}
+use Rattle.number.specs.Below.{Below, Bytes}
 use Rattle.record.specs.laws.Steps.{ends, onward, first, empty}
 use Rattle.record.specs.laws.EntryTrip.{reads-entry, written-entry, entry-some, entry-few, below-none, below-append, entry-bytes}
 

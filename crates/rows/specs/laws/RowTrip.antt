@@ -14,7 +14,7 @@ use Rattle.record.specs.declared.Entry.{Entry}
 use Rattle.record.specs.declared.Entry.the-variants.{ReadAsked, WriteAsked, Told, Done}
 use Rattle.record.specs.declared.Found.the-variants.{At}
 use Rattle.record.specs.Legal.{InRange}
-use Rattle.record.specs.Below.{Words}
+use Rattle.number.specs.Below.{Words}
 use Rattle.record.specs.laws.EntryTrip.{never, below-none}
 use Rattle.rows.specs.Row.{rowOf, rowFound, rowAt}
 use Rattle.rows.specs.laws.RowLaws.{row-24, row-25-client, row-25-cell, row-done, row-told, row-read, row-write}

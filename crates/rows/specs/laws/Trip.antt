@@ -13,7 +13,7 @@ use Rattle.record.specs.declared.Found.the-variants.{At}
 use Rattle.record.specs.declared.Answer.the-variants.{All, Refused}
 use Rattle.record.specs.Record.{entryLimit, fresh, Held, entries, fault, recordOf, bytesOf}
 use Rattle.record.specs.Legal.{Legal}
-use Rattle.record.specs.Below.{Bytes, Words}
+use Rattle.number.specs.Below.{Bytes, Words}
 use Rattle.record.specs.laws.Trip.{held-legal, Source, holds, from-length, from-none, all-below, reading-legal, read-of-write, write-of-read}
 use Rattle.rows.specs.Row.{rowOf, rowAt}
 use Rattle.rows.specs.Rows.{rowsHeld, rowsOf, Outcome, stored, readInto, writeInto, readOutcome, writeOutcome}

@@ -12,7 +12,7 @@ use Rattle.rack.specs.declared.Rack.{Rack}
 use Rattle.rack.specs.declared.Ran.{Ran}
 use Rattle.method.specs.Plan.{started, startIn, startOf, ofSlot, planOf}
 use Rattle.rack.specs.Places.{freeAt, roomOf, sentOf}
-use Rattle.rack.specs.Sound.{sizesFit, owes, owedBy, owedBelow, owed}
+use Rattle.rack.specs.Sound.{sizesFit, owes, owedBy, owedIn, owed}
 use Rattle.method.specs.About.{clientIn, clientOf}
 use Rattle.rack.specs.Run.{freshRack, byte, eventOf, inRack, slotOf, placeIn, noted, freed, checked, decided, addressed, cleared, recorded, entriesIn, appliedOf, turn, ranOf}
 use Rattle.rack.specs.Run.{runFrom, runOf}
@@ -44,7 +44,7 @@ record Begun (q : Ran) : Type 0 where
   count : q .rack .count ≡ 1
 
 begun-from : Begun (runFrom 0 (freshRack 3 1 1) 5 (1 ∷ 0 ∷ 0 ∷ 18 ∷ []))
-unfolding setBits hasReplica everyReplica membersFrom ones countFrom firstFrom started startIn startOf planOf freeAt roomOf sentOf owes owedBy owedBelow owed freshRack byte eventOf inRack slotOf clientIn placeIn clientOf noted freed checked decided addressed cleared recorded entriesIn appliedOf turn runFrom signedOf
+unfolding setBits hasReplica everyReplica membersFrom ones countFrom firstFrom started startIn startOf planOf freeAt roomOf sentOf owes owedBy owedIn owed freshRack byte eventOf inRack slotOf clientIn placeIn clientOf noted freed checked decided addressed cleared recorded entriesIn appliedOf turn runFrom signedOf
 begun-from = record { done = refl; refusal = refl; room = refl; count = refl }
 
 begun : (q : Ran) → Starts q → Begun q

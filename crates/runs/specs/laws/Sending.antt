@@ -13,7 +13,7 @@ use Rattle.slots.specs.Free.{countFrom, firstFree, takenAt, markedAt}
 use Rattle.slots.specs.laws.FreeLaws.{taken-here, taken-else, given-here, given-else, count-same, count-most, count-taken, count-given, some-free, lowest-free, lowest-least}
 use Rattle.slots.specs.Words.{Tied, Took}
 use Rattle.slots.specs.laws.Finding.{tied-same}
-use Rattle.slots.specs.laws.UpTo.{upTo, upto-next, upto-all}
+use Rattle.slots.specs.laws.UpTo.{freeBelow, upto-next, upto-all}
 use Rattle.method.specs.declared.Message.{Message}
 use Rattle.rack.specs.declared.Slot.{Slot}
 use Rattle.rack.specs.Places.{empty, full, heldIn, isEmpty, freeAt, roomOf, sentOf}
@@ -200,9 +200,9 @@ sending-start n w j b s m to free after es h l f t k o sm nm =
 
 -- ---- the map made a slot at a time
 
-pub map-next : (w : List Slot) (i : ℕ) (b : Bool) (ws : List ℕ) → b ≡ isEmpty (heldIn w i) → Tied (markedAt b (upTo i (freeAt w)) i) ws → Tied (upTo (i + 1) (freeAt w)) ws
+pub map-next : (w : List Slot) (i : ℕ) (b : Bool) (ws : List ℕ) → b ≡ isEmpty (heldIn w i) → Tied (markedAt b (freeBelow i (freeAt w)) i) ws → Tied (freeBelow (i + 1) (freeAt w)) ws
 unfolding freeAt
 map-next w i b ws e t = upto-next i (freeAt w) ws (rw e at t)
 
-pub map-all : (w : List Slot) (i : ℕ) (ws : List ℕ) → i ≤ 256 → 256 ≤ i → Tied (upTo i (freeAt w)) ws → Tied (freeAt w) ws
+pub map-all : (w : List Slot) (i : ℕ) (ws : List ℕ) → i ≤ 256 → 256 ≤ i → Tied (freeBelow i (freeAt w)) ws → Tied (freeAt w) ws
 map-all w i ws h l t = let e : i ≡ 256 = omega arith in upto-all (freeAt w) ws (rw e at t)

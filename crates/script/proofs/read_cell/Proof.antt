@@ -1,7 +1,8 @@
 -- `script::read_cell` meets its contract. Assumes nothing.
 use mathlib.Core.Path.{sym, _∙_}
 use borrow.Author.Tests.{eq-eqb, ne-eqb}
-use Rattle.script.specs.Script.{andThen, cellAt}
+use Rattle.script.specs.Script.{cellAt}
+use Rattle.number.specs.Number.{andThen}
 use borrow.Author.Needs.{needs}
 use Rattle.script.proofs.read_cell.Statement.{statement}
 use Rattle.script.proofs.read_cell.Tie as tie

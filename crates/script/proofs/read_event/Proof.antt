@@ -1,7 +1,8 @@
 -- `script::read_event` meets its contract. Assumes nothing.
 use mathlib.Core.Path.{sym, _∙_}
 use borrow.Author.Tests.{lt-ltb, le-ltb}
-use Rattle.script.specs.Script.{andThen, eventAt}
+use Rattle.script.specs.Script.{eventAt}
+use Rattle.number.specs.Number.{andThen}
 use borrow.Author.Needs.{needs}
 use Rattle.script.proofs.read_event.Statement.{statement}
 use Rattle.script.proofs.read_event.Tie as tie

@@ -1,7 +1,8 @@
 -- `script::read_fields` meets its contract. Assumes nothing.
 use mathlib.Core.Path.{sym, _∙_}
 use borrow.Author.Tests.{lt-ltb, le-ltb}
-use Rattle.script.specs.Script.{andThen, fieldsAt}
+use Rattle.script.specs.Script.{fieldsAt}
+use Rattle.number.specs.Number.{andThen}
 use borrow.Author.Needs.{needs}
 use Rattle.script.proofs.read_fields.Statement.{statement}
 use Rattle.script.proofs.read_fields.Tie as tie

@@ -1,6 +1,7 @@
 -- `script::read_head` meets its contract. Assumes nothing.
 use mathlib.Core.Path.{sym, _∙_}
-use Rattle.script.specs.Script.{andThen, headOf}
+use Rattle.script.specs.Script.{headOf}
+use Rattle.number.specs.Number.{andThen}
 use borrow.Author.Needs.{needs}
 use Rattle.script.proofs.read_head.Statement.{statement}
 use Rattle.script.proofs.read_head.Tie as tie

@@ -1,6 +1,7 @@
 -- `script::read_last` meets its contract. Assumes nothing.
 use mathlib.Core.Path.{sym, _∙_}
-use Rattle.script.specs.Script.{andThen, lastAt}
+use Rattle.script.specs.Script.{lastAt}
+use Rattle.number.specs.Number.{andThen}
 use borrow.Author.Needs.{needs}
 use Rattle.script.proofs.read_last.Statement.{statement}
 use Rattle.script.proofs.read_last.Tie as tie

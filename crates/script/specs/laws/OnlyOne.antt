@@ -3,11 +3,11 @@ use Prim.Native.Nat.{ℕ}
 use mathlib.Core.List.{List, [], _∷_}
 use mathlib.Core.Path.{_≡_, ap, _∙_, sym}
 use native.Mathlib.Omega.{arith}
-use Rattle.number.specs.Number.{taken, lastOf, valueOf, numberOf, numberAt}
+use Rattle.number.specs.Number.{taken, lastOf, valueOf, numberOf, numberAt, andThen}
 use Rattle.script.specs.declared.Words.{Words}
 use Rattle.script.specs.declared.Words.the-variants.{Are, Refused}
 use Rattle.script.specs.declared.Filled.{Filled}
-use Rattle.script.specs.Script.{andThen, lastAt, headOf, cellAt, fieldsAt, eventAt, scriptOf, Fills}
+use Rattle.script.specs.Script.{lastAt, headOf, cellAt, fieldsAt, eventAt, scriptOf, Fills}
 use Rattle.script.specs.Answers.{refusalOf, placeIn, fourIn}
 use Rattle.script.specs.Examples.{bench}
 use Rattle.script.specs.laws.Sheet.{bench-head, bench-write, bench-count, bench-place, empty-script, cut-script, unknown-code}

@@ -1,9 +1,9 @@
 -- Worked examples: the bench sheet's write as a script, and one script for each fault.
 use mathlib.Core.Path.{_≡_, refl}
 use mathlib.Core.List.{[], _∷_}
-use Rattle.number.specs.Number.{taken, lastOf, valueOf, numberOf, numberAt}
+use Rattle.number.specs.Number.{taken, lastOf, valueOf, numberOf, numberAt, andThen}
 use Rattle.script.specs.declared.Words.the-variants.{Are, Refused}
-use Rattle.script.specs.Script.{andThen, lastAt, headOf, cellAt, fieldsAt, eventAt, enter, eventsIn, eventsFrom, unlessFault, scriptOf, wordsOf, countUpTo, placeAfter}
+use Rattle.script.specs.Script.{lastAt, headOf, cellAt, fieldsAt, eventAt, enter, eventsIn, eventsFrom, unlessFault, scriptOf, wordsOf, countUpTo, placeAfter}
 use Rattle.script.specs.Examples.{bench}
 
 pub bench-head : headOf bench ≡ Are 3 1 1 100 4

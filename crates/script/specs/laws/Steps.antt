@@ -7,12 +7,12 @@ use native.Mathlib.Omega.{arith}
 use lib.ListN.{length, drop}
 use lib.Dec.{ltb, eqb}
 use borrow.Author.Tests.{lt-ltb, le-ltb, ltb-true, ltb-false}
-use Rattle.number.specs.Number.{numberAt, numberOf, taken, lastOf, endsFirst, lastIsZero, fifthAbove, valueOf}
+use Rattle.number.specs.Number.{numberAt, numberOf, taken, lastOf, endsFirst, lastIsZero, fifthAbove, valueOf, andThen}
 use Rattle.number.specs.declared.Number.{Number}
 use Rattle.number.specs.declared.Number.the-variants.{Is, Refused as NoNumber}
 use Rattle.script.specs.declared.Words.{Words}
 use Rattle.script.specs.declared.Words.the-variants.{Are, Refused}
-use Rattle.script.specs.Script.{andThen, reading, lastAt, cellAt, fieldsAt, eventAt, Events, none, fault, event, enter, eventsIn, eventsFrom, unlessFault, wordsOf, wordsUpTo}
+use Rattle.script.specs.Script.{reading, lastAt, cellAt, fieldsAt, eventAt, Events, none, fault, event, enter, eventsIn, eventsFrom, unlessFault, wordsOf, wordsUpTo}
 use Rattle.script.specs.Script.{countUpTo, placeAfter}
 
 -- ---- what is read takes a byte at least
@@ -41,7 +41,7 @@ reading-rises : (s : List ℕ) (at : ℕ) (rest : ℕ → ℕ → Words) (kind a
 unfolding andThen
 reading-rises s at rest kind a b value next h p = go (numberAt s at) refl p
   where
-    go : (r : Number) → numberAt s at ≡ r → andThen at r rest ≡ Are kind a b value next → at < next
+    go : (r : Number) → numberAt s at ≡ r → andThen (λ k. Refused k at) r rest ≡ Are kind a b value next → at < next
     go (NoNumber k) e q = refused-not q
     go (Is n after) e q = omega (arith, number-rises s at n after e, h n after q)
 

@@ -4,11 +4,11 @@ use mathlib.Core.Path.{_≡_, refl, ap, _∙_}
 use mathlib.Core.Bool.{true}
 use mathlib.Core.List.{List, []}
 use lib.Count.{ones}
-use Rattle.number.specs.Number.{groupsOf, taken, lastOf, valueOf, numberOf, numberAt}
+use Rattle.number.specs.Number.{groupsOf, taken, lastOf, valueOf, numberOf, numberAt, andThen}
 use Rattle.number.specs.Value.{alternatingOf, signedOf}
 use Rattle.number.specs.laws.Sheet.{of-127, of-128}
 use Rattle.record.specs.declared.Entry.{Entry}
-use Rattle.record.specs.Entry.{entryBytes, upTo, andThen, fieldsAt, entryAt}
+use Rattle.record.specs.Entry.{entryBytes, upTo, fieldsAt, entryAt}
 use Rattle.record.specs.Record.{entries, faultAfter, standingAfter, before, enter, heldFrom, recordOf, allOf, bytesOf}
 use Rattle.record.specs.laws.Sheet.{sheet-reads}
 use Rattle.law.specs.Operation.{note, notes, operations}
@@ -24,7 +24,7 @@ use Rattle.stamps.specs.Stamp.{stampLess, raised}
 use Rattle.method.specs.Plan.{started, startIn, startOf, askOf, keepOf, current, keepsOf, phaseEnds, holds, tellCounts, tellIn, tellOf, lastEntry, keptCounts, keptIn, keptOf}
 use Rattle.method.specs.Plan.{deliverIn, deliverOf, ofSlot, planOf}
 use Rattle.rack.specs.Places.{freeAt, roomOf, sentOf, recordOf as recordIn}
-use Rattle.rack.specs.Sound.{allBelow, sizesFit, pairFits, bodyFits, messageFits, heldFits, workFits, owes, owedBy, owedBelow, owed, wireFits, pairsFit, partiesFit, recordFits}
+use Rattle.rack.specs.Sound.{allBelow, sizesFit, pairFits, bodyFits, messageFits, heldFits, workFits, owes, owedBy, owedIn, owed, wireFits, pairsFit, partiesFit, recordFits}
 use Rattle.rack.specs.Sound.{soundOf}
 use Rattle.method.specs.About.{clientIn, clientOf}
 use Rattle.rack.specs.Run.{freshRack, byte, eventOf, inRack, slotOf, placeIn, noted, freed, checked, decided, addressed, cleared, recorded, entriesIn, appliedOf, turn, runFrom}
@@ -49,7 +49,7 @@ module _ {bytes : List ℕ} {es : List Entry} (held : recordOf bytes ≡ entries
   unlawful-line p q t = says (unlawful 2) (es, (taken-for, lowest-2 es p q (by-no (dec-lawful (operations (partOf 2 es))) t)))
 
 pub sheet : Sheet
-unfolding groupsOf alternatingOf recordOf heldFrom allOf distinct distinctFrom allBytes operations notes dec-lawful entryBytes enter before faultAfter standingAfter entryAt fieldsAt upTo andThen numberAt numberOf taken lastOf valueOf signedOf repeats askedAmong asksFor note partOf partFrom setBits hasReplica withReplica majority asksEnough keepsEnough everyReplica within membersFrom ones countFrom firstFrom stampLess raised started startIn startOf askOf keepOf current keepsOf phaseEnds holds tellCounts tellIn tellOf lastEntry keptCounts keptIn keptOf deliverIn deliverOf ofSlot planOf freeAt roomOf sentOf allBelow sizesFit pairFits bodyFits messageFits heldFits workFits owes owedBy owedBelow owed wireFits pairsFit partiesFit recordFits soundOf freshRack byte eventOf inRack slotOf clientIn placeIn clientOf noted freed checked decided addressed cleared recorded entriesIn appliedOf turn runFrom runOf sentBy deliveredBy counted countOver recordIn
+unfolding groupsOf alternatingOf recordOf heldFrom allOf distinct distinctFrom allBytes operations notes dec-lawful entryBytes enter before faultAfter standingAfter entryAt fieldsAt upTo andThen numberAt numberOf taken lastOf valueOf signedOf repeats askedAmong asksFor note partOf partFrom setBits hasReplica withReplica majority asksEnough keepsEnough everyReplica within membersFrom ones countFrom firstFrom stampLess raised started startIn startOf askOf keepOf current keepsOf phaseEnds holds tellCounts tellIn tellOf lastEntry keptCounts keptIn keptOf deliverIn deliverOf ofSlot planOf freeAt roomOf sentOf allBelow sizesFit pairFits bodyFits messageFits heldFits workFits owes owedBy owedIn owed wireFits pairsFit partiesFit recordFits soundOf freshRack byte eventOf inRack slotOf clientIn placeIn clientOf noted freed checked decided addressed cleared recorded entriesIn appliedOf turn runFrom runOf sentBy deliveredBy counted countOver recordIn
 sheet =
     record {
       number-127 = of-127;

@@ -8,11 +8,11 @@ use native.Mathlib.Omega.{arith}
 use lib.Dec.{ltb}
 use lib.ListN.{take}
 use borrow.Author.Tests.{ltb-true}
-use Rattle.number.specs.Number.{taken, lastOf, valueOf, numberOf, numberAt}
+use Rattle.number.specs.Number.{taken, lastOf, valueOf, numberOf, numberAt, andThen}
 use Rattle.number.specs.Value.{alternatingOf, signedOf}
 use Rattle.record.specs.declared.Entry.{Entry}
-use Rattle.record.specs.Below.{Bytes}
-use Rattle.record.specs.Entry.{upTo, andThen, fieldsAt, entryAt}
+use Rattle.number.specs.Below.{Bytes}
+use Rattle.record.specs.Entry.{upTo, fieldsAt, entryAt}
 use Rattle.record.specs.Record.{entries, faultAfter, standingAfter, before, enter, heldFrom, recordOf}
 use Rattle.record.specs.Examples.{sheetBytes}
 use Rattle.record.specs.laws.Sheet.{sheet-reads}

@@ -1,9 +1,9 @@
 -- Refusal 29 on the bench sheet's bytes: client 0 writes 5 to cell 2, and client 1 reads 5 there.
 use mathlib.Core.Path.{_≡_, refl}
 use mathlib.Core.List.{[], _∷_, _++_}
-use Rattle.number.specs.Number.{taken, lastOf, valueOf, numberOf, numberAt}
+use Rattle.number.specs.Number.{taken, lastOf, valueOf, numberOf, numberAt, andThen}
 use Rattle.number.specs.Value.{alternatingOf, signedOf}
-use Rattle.record.specs.Entry.{upTo, andThen, fieldsAt, entryAt}
+use Rattle.record.specs.Entry.{upTo, fieldsAt, entryAt}
 use Rattle.record.specs.Record.{fault, faultAfter, standingAfter, before, enter, heldFrom, recordOf}
 use Rattle.record.specs.Examples.{sheetBytes}
 use Rattle.verdict.specs.Verdict.{asksFor, askedAmong, repeats, distinctFrom, distinct, takenFor}
