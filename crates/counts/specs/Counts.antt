@@ -19,7 +19,7 @@ use Rattle.method.specs.declared.Event.{Event}
 use Rattle.method.specs.declared.Event.the-variants.{StartRead, StartWrite, Deliver, Lose, Copy, Resend, Stop, Off, On, Unknown}
 use Rattle.method.specs.declared.Plan.{Plan}
 use Rattle.rack.specs.Places.{slotLimit, freeAt}
-use Rattle.rack.specs.Run.{runOf}
+use Rattle.rack.specs.Run.{madeOf, runOf}
 use Rattle.rack.specs.Counts.{sentBy, deliveredBy, countOver}
 
 -- ---- slots in use
@@ -129,3 +129,13 @@ endsBy c (Done client) = cond (eqb (client .0) c) 1 0
 unfoldable pub endsOf : ℕ → List Entry → ℕ
 endsOf c [] = 0
 endsOf c (e ∷ es) = endsBy c e + endsOf c es
+
+-- ---- a run from what the maker gives
+
+-- the rack that the maker gives
+abbrev pub madeRack : ℕ → ℕ → ℕ → Rack
+madeRack replicas clients cells = madeOf replicas clients cells .rack
+
+-- the rack after a run from it
+abbrev pub rackAfter : ℕ → ℕ → ℕ → ℕ → List ℕ → Rack
+rackAfter replicas clients cells allowance ws = runOf (madeRack replicas clients cells) allowance ws .rack

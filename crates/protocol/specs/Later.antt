@@ -2,7 +2,8 @@
 use mathlib.Core.Path.{_≡_}
 use mathlib.Core.Logic.{_⊎_}
 use Prim.Native.Nat.{ℕ, _≤_}
-use Rattle.protocol.specs.View.{Op, View}
+use Rattle.protocol.specs.View.{Setting, Op, View}
+use Rattle.protocol.specs.Invariant.{Invariant}
 
 -- the operation a may become b, where it was the time now
 pub record Grown (now : ℕ) (a b : Op) : Type 0 where
@@ -23,3 +24,8 @@ Grows t f g = (i : ℕ) → Grown t (f i) (g i)
 pub record Later (v w : View) : Type 0 where
   pub ops : Grows (v .now) (v .ops) (w .ops)
   pub pair : (r c : ℕ) → v .pair r c .stamp ≤ w .pair r c .stamp
+
+-- the view w keeps the invariants, and is one that moves can lead to from v
+pub record Next (S : Setting) (v w : View) : Type 0 where
+  pub keeps : Invariant S w
+  pub later : Later v w

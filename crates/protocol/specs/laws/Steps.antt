@@ -11,7 +11,7 @@ use Rattle.protocol.specs.Move.{Move, start, hear, choose, take, count, 
 use Rattle.protocol.specs.Move.{after}
 use Rattle.protocol.specs.Invariant.{Timed, Invariant}
 use Rattle.protocol.specs.laws.Place.{put-one, put-here}
-use Rattle.protocol.specs.Later.{Grown, Later}
+use Rattle.protocol.specs.Later.{Grown, Later, Next}
 use Rattle.protocol.specs.laws.Growth.{grown-same, grown-open, grows-put, minted-grows}
 use Rattle.protocol.specs.laws.Frame.{Change, frame}
 use Rattle.protocol.specs.laws.Pairs.{raised-is, raised-least, held-is, held-least}
@@ -213,20 +213,15 @@ module _ (S : Setting) (v : View) (h : Invariant S v) where
 
   -- ---- every move
 
-  -- the view w keeps what v kept, and is later
-  pub record Next (w : View) : Type 0 where
-    pub keeps : Invariant S w
-    pub later : Later v w
-
-  next-changed : (o : ℕ) (n : Op) (t : ℕ) → Change S v o n t → Next (changed v o n t)
+  next-changed : (o : ℕ) (n : Op) (t : ℕ) → Change S v o n t → Next S v (changed v o n t)
   next-changed o n t k =
       record { keeps = frame S v o n t h k; later = record { ops = grows-put (v .now) (v .ops) o n (k .grown); pair = λ r c. omega arith } }
 
-  next-stored : (r c : ℕ) (p : Pair) → v .pair r c .stamp ≤ p .stamp → Minted (v .ops) c p → Next (stored v r c p)
+  next-stored : (r c : ℕ) (p : Pair) → v .pair r c .stamp ≤ p .stamp → Minted (v .ops) c p → Next S v (stored v r c p)
   next-stored r c p le m =
       record { keeps = stored-keeps r c p le m; later = record { ops = λ i. grown-same (v .now) (v .ops i); pair = raises r c p le } }
 
-  pub step : (m : Move) → Legal S v m → Next (after S v m)
+  pub step : (m : Move) → Legal S v m → Next S v (after S v m)
   step (start o client cell write value) l = next-changed o _ (suc (v .now)) (start-owes o client cell write value l)
   step (hear o r told) l = next-changed o _ (v .now) (hear-owes o r told l)
   step (choose o) l = next-changed o _ (v .now) (choose-owes o l)
