@@ -9,14 +9,15 @@ use crate::project::{Place, Project};
 use crate::rt::Form;
 use std::collections::BTreeSet;
 
-/// The heading under which stand the functions that may have no contract.
+/// The section of functions that have no row in a table, and the heading in it under which stand those that may have no contract.
+const EXCEPTIONS: &str = "## Exceptions";
 const NO_CONTRACT: &str = "### Without a contract";
 
 #[derive(Debug, Default)]
 pub struct Page {
     /// Definitions, theorems and types that the page names.
     pub named: BTreeSet<Place>,
-    /// Public functions that it names.
+    /// Public functions that have a row, or are named as exceptions.
     pub called: BTreeSet<Place>,
     /// Those that it says have no contract.
     pub without_contract: BTreeSet<Place>,
@@ -49,12 +50,13 @@ pub fn read(project: &Project, text: &str) -> Page {
     let mut page = Page::default();
     let mut crates: Vec<usize> = Vec::new();
     let mut columns: Vec<&str> = Vec::new();
-    let mut excepted = false;
+    let (mut is_exception, mut excepted) = (false, false);
     for (number, line) in text.lines().enumerate() {
         if line.starts_with('#') {
             excepted = line == NO_CONTRACT;
             if line.starts_with("## ") {
                 crates = crates_in(project, line);
+                is_exception = line == EXCEPTIONS;
             }
             continue;
         }
@@ -68,7 +70,7 @@ pub fn read(project: &Project, text: &str) -> Page {
             for said in names(part, is_call) {
                 page.tried += 1;
                 match look_up(project, &crates, &said) {
-                    Ok(found) => page.note(found, excepted),
+                    Ok(found) => page.note(found, is_call || is_exception, excepted),
                     Err(fault) => page.faults.push(format!("docs/PROMISES.md: line {}: {}: {fault}", number + 1, said.name)),
                 }
             }
@@ -79,7 +81,7 @@ pub fn read(project: &Project, text: &str) -> Page {
 }
 
 impl Page {
-    fn note(&mut self, found: Found, excepted: bool) {
+    fn note(&mut self, found: Found, listed: bool, excepted: bool) {
         match found {
             Found::Item(place) => {
                 self.named.insert(place);
@@ -88,7 +90,9 @@ impl Page {
                 if excepted {
                     self.without_contract.insert(place.clone());
                 }
-                self.called.insert(place);
+                if listed {
+                    self.called.insert(place);
+                }
             }
             Found::Edit | Found::Crate => {}
         }
@@ -101,7 +105,7 @@ impl Page {
             let path = project.path_of(place.krate, &place.file);
             let promises = item.clauses.iter().any(|(word, _)| word == "ensures");
             if !self.called.contains(&place) {
-                self.faults.push(format!("{path}: the public function {} is not on docs/PROMISES.md", item.full_name()));
+                self.faults.push(format!("{path}: the public function {} has no row on docs/PROMISES.md", item.full_name()));
             }
             if promises == self.without_contract.contains(&place) {
                 let what = if promises { "a contract, and docs/PROMISES.md says that it has none" } else { "no contract" };
