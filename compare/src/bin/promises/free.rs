@@ -5,10 +5,7 @@ use crate::tokens::Token;
 use crate::trees::{place_of, trees, Node};
 
 /// Words and marks of the language, which no file declares. `×` forms pairs, `Type` is followed by a level.
-const LANGUAGE: [&str; 24] = [
-    ":", "=", "→", "×", "λ", "let", "in", "record", "elim", "as", "Type", "_", "[", "]", "|", "↦", "⊔", "⌜", "⌝", "now", "data", "where", "pub",
-    "using",
-];
+const LANGUAGE: [&str; 17] = [":", "=", "→", "×", "λ", "let", "in", "record", "elim", "as", "Type", "_", "[", "]", "|", "↦", "⊔"];
 
 /// A walk over an item's trees. What it needs to know of names is only which are constructors: in a pattern those are uses, all others binders.
 pub struct Walk<'a> {
@@ -61,6 +58,7 @@ impl<'a> Walk<'a> {
 
     /// The parameters of a record or data type, its kind, then its fields, each in the sight of the earlier ones, or its constructors.
     fn type_item(&mut self, item: &Item, head: &[Token]) {
+        let head = &head[..place_of(head, &["where"]).unwrap_or(head.len())];
         let colon = place_of(head, &[":"]).unwrap_or(head.len());
         self.telescope(&trees(&head[..colon]));
         self.expression(&trees(&head[colon..]));

@@ -1,6 +1,6 @@
 //! Where definitions stand: what has to be read is in files directly in crates/*/specs/, and those hold nothing else. README.md lists them.
 
-use crate::project::Project;
+use crate::project::{Place, Project};
 use crate::reach::Reach;
 use std::collections::{BTreeMap, BTreeSet};
 
@@ -14,31 +14,20 @@ fn is_below(file: &str) -> bool {
     file.matches('/').count() > 1
 }
 
-/// Every reached definition that stands in a folder below specs/, and all else that stands directly in specs/.
+/// Files below a folder of specs/ that hold reached definitions, and files directly in specs/ that hold anything else.
 pub fn violations(project: &Project, reach: &Reach) -> Vec<String> {
     let mut found = Vec::new();
-    for place in reach.definitions.iter().filter(|place| place.file.starts_with("specs/") && is_below(&place.file)) {
-        let path = project.path_of(place.krate, &place.file);
-        found.push(format!("{path}: the definition {} is reached, and doesn't stand directly in specs/", project.name_of(place)));
-    }
-    for (path, others) in strangers(project, reach) {
-        for (name, what) in others {
-            found.push(format!("{path}: {what} {name} stands directly in specs/"));
-        }
-    }
-    found
-}
-
-/// What stands directly in specs/ and is no reached definition, by file: its name, and what it is.
-fn strangers(project: &Project, reach: &Reach) -> BTreeMap<String, Vec<(String, &'static str)>> {
-    let reached: BTreeSet<(usize, &str, usize)> = reach.definitions.iter().map(|place| (place.krate, place.file.as_str(), place.item)).collect();
-    let mut found: BTreeMap<String, Vec<(String, &'static str)>> = BTreeMap::new();
     for (krate, read) in project.crates.iter().enumerate() {
-        for (file, definitions) in read.specs.iter().filter(|(file, _)| !is_below(file) && !LISTS.contains(&file.as_str())) {
-            for (at, item) in definitions.items.iter().enumerate().filter(|(at, _)| !reached.contains(&(krate, file.as_str(), *at))) {
-                let _ = at;
-                let what = if item.is_opaque() { "the theorem" } else { "the definition, which no promise reaches," };
-                found.entry(project.path_of(krate, file)).or_default().push((item.name.clone(), what));
+        for (file, definitions) in read.specs.iter().filter(|(file, _)| !LISTS.contains(&file.as_str())) {
+            let is_reached = |item: usize| reach.definitions.contains(&Place { krate, file: file.clone(), item });
+            let (reached, others): (Vec<usize>, Vec<usize>) = (0..definitions.items.len()).partition(|&item| is_reached(item));
+            let names = |items: &[usize]| items.iter().map(|&item| definitions.items[item].name.as_str()).collect::<Vec<_>>().join(", ");
+            let path = project.path_of(krate, file);
+            if is_below(file) && !reached.is_empty() {
+                found.push(format!("{path}: reached, and not directly in specs/: {}", names(&reached)));
+            } else if !is_below(file) && !others.is_empty() {
+                let beside = if reached.is_empty() { String::new() } else { format!(" beside the reached {}", names(&reached)) };
+                found.push(format!("{path}: directly in specs/, and theorems or not reached: {}{beside}", names(&others)));
             }
         }
     }

@@ -7,6 +7,9 @@ use crate::resolve::{in_code, in_contract, in_definitions, Meaning, Target};
 use crate::trees::{place_of, trees, Node};
 use std::collections::{BTreeMap, BTreeSet};
 
+/// Words of a contract that no `use` line brings: its marks, lent memory as it stands, and a method's receiver.
+const CONTRACT_WORDS: [&str; 4] = ["⌜", "⌝", "now", "self"];
+
 /// The names that a file's listed items have from its `use` lines, by path.
 pub type Brought = BTreeMap<String, BTreeSet<String>>;
 
@@ -71,7 +74,7 @@ impl Reach {
         let is_constructor = |_: &str| false;
         let mut walk = Walk::new(&is_constructor);
         item.parameters.iter().for_each(|name| walk.bind(name));
-        walk.bind("self");
+        CONTRACT_WORDS.iter().for_each(|word| walk.bind(word));
         item.clauses.iter().for_each(|(_, clause)| walk.expression(&trees(clause)));
         let names: BTreeSet<String> = walk.found.into_iter().collect();
         let meanings: Vec<_> = names.iter().map(|name| in_contract(project, place.krate, &place.file, name)).collect();

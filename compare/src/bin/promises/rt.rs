@@ -238,7 +238,7 @@ fn word_of(piece: &Piece) -> Option<&str> {
 /// What stands in the braces of an `impl` or a module.
 fn read_inner(source: &[char], item: &[Placed], keyword: usize, code: &mut Code) {
     let Some(open) = item.iter().position(|piece| is_mark(Some(piece), '{')) else { return };
-    let header = normal_lines(&source[item[0].1..item[open].1]).join(" ");
+    let header = normal_lines(source, item[0].1, item[open].1).join(" ");
     let words = item[keyword + 1..open].iter().filter_map(|(piece, _, _)| word_of(piece));
     let name = words.into_iter().find(|word| !word.starts_with('\'')).unwrap_or("").to_string();
     let owner = is(item.get(keyword), "impl").then_some((name.as_str(), header.as_str()));
@@ -263,24 +263,21 @@ fn read_item(source: &[char], item: &[Placed], word: &str, keyword: usize, owner
     let end = body.map_or(item[item.len() - 1].2, |at| item[at].1);
     let mut text: Vec<String> = owner.iter().map(|(_, header)| header.to_string()).collect();
     let indent = if owner.is_some() { "  " } else { "" };
-    text.extend(normal_lines(&source[item[0].1..end]).into_iter().map(|line| indent.to_string() + &line));
+    text.extend(normal_lines(source, item[0].1, end).into_iter().map(|line| indent.to_string() + &line));
     let (paths, variants, parameters) = names_in(&said[keyword + 2..], form);
     let clauses = said.iter().filter_map(|(piece, _, _)| clause_of(piece)).collect();
     let owner = owner.map(|(name, _)| name.to_string());
     code.items.push(Item { name: name.to_string(), form, owner, text, paths, variants, parameters, clauses });
 }
 
-/// The lines of a text without comments, with single spaces; the second and later ones keep how far they are indented beyond the last line.
-fn normal_lines(text: &[char]) -> Vec<String> {
-    let whole = text_of(text);
-    let lines: Vec<&str> =
-        whole.lines().map(|line| line.split("//").next().unwrap_or("").trim_end()).filter(|line| !line.trim().is_empty()).collect();
+/// The lines from a place to another without comments, with single spaces; each keeps how far it is indented beyond the first.
+fn normal_lines(source: &[char], from: usize, to: usize) -> Vec<String> {
+    let begin = source[..from].iter().rposition(|&c| c == '\n').map_or(0, |at| at + 1);
+    let whole = text_of(&source[begin..to]);
+    let lines = whole.lines().map(|line| line.split("//").next().unwrap_or("").trim_end()).filter(|line| !line.trim().is_empty());
     let indent_of = |line: &str| line.len() - line.trim_start().len();
-    let least = lines.iter().skip(1).map(|line| indent_of(line)).min().unwrap_or(0);
-    let closes = lines.last().is_some_and(|line| line.trim_start().starts_with(['}', ')']));
-    let step = |line: &str| indent_of(line) - least + if closes { 0 } else { 4 };
     let one_space = |line: &str| line.split_whitespace().collect::<Vec<_>>().join(" ");
-    lines.iter().enumerate().map(|(at, line)| if at == 0 { one_space(line) } else { " ".repeat(step(line)) + &one_space(line) }).collect()
+    lines.map(|line| " ".repeat(indent_of(line).saturating_sub(from - begin)) + &one_space(line)).collect()
 }
 
 fn clause_of(piece: &Piece) -> Option<(String, Vec<Token>)> {

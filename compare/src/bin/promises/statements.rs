@@ -47,18 +47,12 @@ pub fn write(project: &Project, reach: &Reach) -> String {
     text
 }
 
-/// An entry's lines: the first is not indented, all others are.
+/// An entry's lines: the first is not indented, all others are, or close a bracket.
 fn entry(project: &Project, place: &Place, statement_only: bool) -> Vec<String> {
     match project.definition(place) {
         Some(item) => definition_lines(item, statement_only),
-        None => code_lines(project, place),
+        None => project.code(place).map_or(Vec::new(), |item| item.text.clone()),
     }
-}
-
-fn code_lines(project: &Project, place: &Place) -> Vec<String> {
-    let Some(item) = project.code(place) else { return Vec::new() };
-    let indent_rest = |(at, line): (usize, &String)| if at == 0 || line.starts_with(' ') { line.clone() } else { format!("  {line}") };
-    item.text.iter().enumerate().map(indent_rest).collect()
 }
 
 /// The headers around an item, its statement, and its parts unless only the statement counts.
@@ -81,7 +75,8 @@ fn definition_lines(item: &Item, statement_only: bool) -> Vec<String> {
     lines
 }
 
-/// The entries of a page: part and file, and the entry's lines. An entry begins with a line that is indented by two spaces.
+/// The entries of a page: part and file, and the entry's lines. An entry begins with a line that is indented by two spaces and closes no
+/// bracket.
 fn entries(text: &str) -> Vec<(String, String)> {
     let mut found: Vec<(String, String)> = Vec::new();
     let (mut part, mut file) = (String::new(), String::new());
@@ -90,7 +85,7 @@ fn entries(text: &str) -> Vec<(String, String)> {
             part = heading.split(':').next().unwrap_or("").to_string();
         } else if !line.starts_with(' ') {
             file = format!("{part}, {line}");
-        } else if line.starts_with("   ") {
+        } else if line.starts_with("   ") || line.trim_start().starts_with(['}', ')']) {
             if let Some((_, entry)) = found.last_mut() {
                 entry.push('\n');
                 entry.push_str(line);
