@@ -56,7 +56,11 @@ impl Item {
 /// The names that a field or a constructor line declares.
 pub fn member_names(part: &[Token]) -> Vec<String> {
     let end = place_of(part, &[":"]).unwrap_or(0);
-    part[..end].iter().filter(|token| token.kind == Kind::Word && token.text != "pub").map(|token| token.text.clone()).collect()
+    part[..end]
+        .iter()
+        .filter(|token| token.kind == Kind::Word && token.text != "pub")
+        .map(|token| token.text.clone())
+        .collect()
 }
 
 /// What a file declares.
@@ -175,7 +179,8 @@ fn is_signature(before_colon: &[Token]) -> bool {
 /// A clause begins with its function's name, or has a part of its operator on the left.
 fn is_clause(chunk: &[Token], name: &str) -> bool {
     let Some(end) = place_of(chunk, &["="]) else { return false };
-    chunk[0].is_word(name) || chunk[..end].iter().any(|token| name.contains('_') && pieces(name).any(|piece| token.is_word(piece)))
+    chunk[0].is_word(name)
+        || chunk[..end].iter().any(|token| name.contains('_') && pieces(name).any(|piece| token.is_word(piece)))
 }
 
 /// The parts of an operator's name between its argument places.
@@ -191,14 +196,19 @@ fn misunderstood(chunk: &[Token]) -> String {
 /// A `use` line without its first word.
 pub fn read_use(line: &[Token]) -> Use {
     let open = line.iter().position(|token| token.text == "{").unwrap_or(line.len());
-    let mut path: String = line[..open].iter().filter(|token| token.text != ";").map(|token| token.text.as_str()).collect();
+    let mut path: String =
+        line[..open].iter().filter(|token| token.text != ";").map(|token| token.text.as_str()).collect();
     if open == line.len() {
         let alias = line.iter().position(|token| token.is_word("as"));
         if let Some(at) = alias {
             path = line[..at].iter().map(|token| token.text.as_str()).collect();
         }
         let last = path.rsplit('.').next().map(str::to_string);
-        return Use { alias: alias.and_then(|at| line.get(at + 1)).map(|token| token.text.clone()).or(last), path, names: Vec::new() };
+        return Use {
+            alias: alias.and_then(|at| line.get(at + 1)).map(|token| token.text.clone()).or(last),
+            path,
+            names: Vec::new(),
+        };
     }
     let close = line.iter().rposition(|token| token.text == "}").unwrap_or(line.len());
     let names = line[open + 1..close].split(|token| token.kind == Kind::Comma).filter_map(read_used_name).collect();

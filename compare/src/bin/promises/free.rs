@@ -5,7 +5,8 @@ use crate::tokens::Token;
 use crate::trees::{place_of, trees, Node};
 
 /// Words and marks of the language, which no file declares. `×` forms pairs, `Type` is followed by a level.
-const LANGUAGE: [&str; 17] = [":", "=", "→", "×", "λ", "let", "in", "record", "elim", "as", "Type", "_", "[", "]", "|", "↦", "⊔"];
+const LANGUAGE: [&str; 17] =
+    [":", "=", "→", "×", "λ", "let", "in", "record", "elim", "as", "Type", "_", "[", "]", "|", "↦", "⊔"];
 
 /// A walk over an item's trees. What it needs to know of names is only which are constructors: in a pattern those are uses, all others binders.
 pub struct Walk<'a> {
@@ -98,7 +99,8 @@ impl<'a> Walk<'a> {
         let mark = self.bound.len();
         let equals = place_of(clause, &["="]).unwrap_or(clause.len() - 1);
         for node in trees(&clause[..equals]) {
-            if !matches!(&node, Node::Word(word) if word == function || pieces(function).any(|piece| function.contains('_') && piece == word)) {
+            if !matches!(&node, Node::Word(word) if word == function || pieces(function).any(|piece| function.contains('_') && piece == word))
+            {
                 self.pattern_node(&node);
             }
         }
@@ -183,7 +185,8 @@ impl<'a> Walk<'a> {
     /// `let x = e in`, `let x : T = e in`; x is bound in what follows.
     fn let_in(&mut self, nodes: &[Node], from: usize) -> usize {
         let mark = self.bound.len();
-        let name_end = (from..nodes.len()).find(|&at| nodes[at].is_word(":") || nodes[at].is_word("=")).unwrap_or(nodes.len());
+        let name_end =
+            (from..nodes.len()).find(|&at| nodes[at].is_word(":") || nodes[at].is_word("=")).unwrap_or(nodes.len());
         let equals = self.up_to(nodes, name_end, &["="]);
         self.bound.truncate(mark);
         let end = self.up_to(nodes, equals + 1, &["in"]);
@@ -277,9 +280,15 @@ mod tests {
 
     #[test]
     fn binders_are_not_free() {
-        assert_eq!(free("t : (x y : A) → {z : B x} → P x y .held z\nt x y (Go p) = let q : C = f x in λ w. (q, w, p .r.s)"), ["A", "B", "C", "Go", "P", "f"]);
+        assert_eq!(
+            free("t : (x y : A) → {z : B x} → P x y .held z\nt x y (Go p) = let q : C = f x in λ w. (q, w, p .r.s)"),
+            ["A", "B", "C", "Go", "P", "f"]
+        );
         assert_eq!(free("f : List N\nf = record { a = g; b = h {A = K} }"), ["K", "List", "N", "g", "h"]);
-        assert_eq!(free("module _ (n : M) where\n  pub t : n ≡ k\n  t = elim n [ zero ↦ u | suc m ↦ m ]"), ["M", "k", "suc", "u", "zero", "≡"]);
+        assert_eq!(
+            free("module _ (n : M) where\n  pub t : n ≡ k\n  t = elim n [ zero ↦ u | suc m ↦ m ]"),
+            ["M", "k", "suc", "u", "zero", "≡"]
+        );
     }
 
     #[test]

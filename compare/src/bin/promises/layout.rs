@@ -4,9 +4,6 @@ use crate::project::{Place, Project};
 use crate::reach::Reach;
 use std::collections::{BTreeMap, BTreeSet};
 
-/// Files that only list modules.
-const LISTS: [&str; 2] = ["specs/Lib.antt", "specs/laws.antt"];
-
 const BEGIN: &str = "<!-- files to read -->";
 const END: &str = "<!-- end of files to read -->";
 
@@ -14,20 +11,27 @@ fn is_below(file: &str) -> bool {
     file.matches('/').count() > 1
 }
 
-/// Files below a folder of specs/ that hold reached definitions, and files directly in specs/ that hold anything else.
+/// Files below a folder of specs/ that hold reached definitions, and files directly in specs/ that hold anything else. Lists of modules hold nothing.
 pub fn violations(project: &Project, reach: &Reach) -> Vec<String> {
     let mut found = Vec::new();
     for (krate, read) in project.crates.iter().enumerate() {
-        for (file, definitions) in read.specs.iter().filter(|(file, _)| !LISTS.contains(&file.as_str())) {
+        for (file, definitions) in &read.specs {
             let is_reached = |item: usize| reach.definitions.contains(&Place { krate, file: file.clone(), item });
-            let (reached, others): (Vec<usize>, Vec<usize>) = (0..definitions.items.len()).partition(|&item| is_reached(item));
-            let names = |items: &[usize]| items.iter().map(|&item| definitions.items[item].name.as_str()).collect::<Vec<_>>().join(", ");
+            let (reached, others): (Vec<usize>, Vec<usize>) =
+                (0..definitions.items.len()).partition(|&item| is_reached(item));
+            let names = |items: &[usize]| {
+                items.iter().map(|&item| definitions.items[item].name.as_str()).collect::<Vec<_>>().join(", ")
+            };
             let path = project.path_of(krate, file);
             if is_below(file) && !reached.is_empty() {
                 found.push(format!("{path}: reached, and not directly in specs/: {}", names(&reached)));
             } else if !is_below(file) && !others.is_empty() {
-                let beside = if reached.is_empty() { String::new() } else { format!(" beside the reached {}", names(&reached)) };
-                found.push(format!("{path}: directly in specs/, and theorems or not reached: {}{beside}", names(&others)));
+                let beside =
+                    if reached.is_empty() { String::new() } else { format!(" beside the reached {}", names(&reached)) };
+                found.push(format!(
+                    "{path}: directly in specs/, and theorems or not reached: {}{beside}",
+                    names(&others)
+                ));
             }
         }
     }
@@ -56,8 +60,10 @@ pub fn check_readme(project: &Project, reach: &Reach, readme: &str) -> Vec<Strin
         return vec![format!("README.md: the lines {BEGIN} and {END} are missing")];
     };
     let reached: BTreeSet<String> = files(project, reach).into_values().flatten().collect();
-    let missing = reached.difference(&listed).map(|file| format!("README.md: {file} has to be read, and is not listed"));
-    let idle = listed.difference(&reached).map(|file| format!("README.md: {file} is listed, and no promise reaches it"));
+    let missing =
+        reached.difference(&listed).map(|file| format!("README.md: {file} has to be read, and is not listed"));
+    let idle =
+        listed.difference(&reached).map(|file| format!("README.md: {file} is listed, and no promise reaches it"));
     missing.chain(idle).collect()
 }
 

@@ -5,6 +5,7 @@
 mod antt;
 mod examine;
 mod free;
+mod imports;
 mod layout;
 mod page;
 mod project;

@@ -71,7 +71,9 @@ pub fn read(project: &Project, text: &str) -> Page {
                 page.tried += 1;
                 match look_up(project, &crates, &said) {
                     Ok(found) => page.note(found, is_call || is_exception, excepted),
-                    Err(fault) => page.faults.push(format!("docs/PROMISES.md: line {}: {}: {fault}", number + 1, said.name)),
+                    Err(fault) => {
+                        page.faults.push(format!("docs/PROMISES.md: line {}: {}: {fault}", number + 1, said.name))
+                    }
                 }
             }
         }
@@ -105,10 +107,12 @@ impl Page {
             let path = project.path_of(place.krate, &place.file);
             let promises = item.clauses.iter().any(|(word, _)| word == "ensures");
             if !self.called.contains(&place) {
-                self.faults.push(format!("{path}: the public function {} has no row on docs/PROMISES.md", item.full_name()));
+                self.faults
+                    .push(format!("{path}: the public function {} has no row on docs/PROMISES.md", item.full_name()));
             }
             if promises == self.without_contract.contains(&place) {
-                let what = if promises { "a contract, and docs/PROMISES.md says that it has none" } else { "no contract" };
+                let what =
+                    if promises { "a contract, and docs/PROMISES.md says that it has none" } else { "no contract" };
                 self.faults.push(format!("{path}: the public function {} has {what}", item.full_name()));
             }
         }
@@ -137,7 +141,8 @@ fn said<'a>(quoted: &'a str, after: &'a str, in_call_column: bool) -> Option<Sai
     let called = quoted.ends_with(')');
     let whole = if called { quoted.split('(').next().unwrap_or("") } else { quoted };
     let (prefix, name) = whole.split_once("::").map_or((None, whole), |(prefix, name)| (Some(prefix), name));
-    let is_name = name.starts_with(|c: char| c.is_ascii_alphabetic()) && name.chars().all(|c| c.is_alphanumeric() || "_-′".contains(c));
+    let is_name = name.starts_with(|c: char| c.is_ascii_alphabetic())
+        && name.chars().all(|c| c.is_alphanumeric() || "_-′".contains(c));
     if !is_name || name == "pub" {
         return None;
     }
@@ -170,7 +175,10 @@ fn look_up(project: &Project, section: &[usize], said: &Said) -> Result<Found, S
         return only_one(calls);
     }
     let items = items_named(project, &crates, said, false);
-    let edits = crates.iter().filter(|&&krate| project.crates[krate].edits.iter().any(|edit| edit == said.name)).map(|_| Found::Edit);
+    let edits = crates
+        .iter()
+        .filter(|&&krate| project.crates[krate].edits.iter().any(|edit| edit == said.name))
+        .map(|_| Found::Edit);
     let mut found: Vec<Found> = items;
     if said.file.is_none() {
         found.extend(edits);
@@ -215,7 +223,11 @@ fn items_named(project: &Project, crates: &[usize], said: &Said, as_member: bool
             let fits_file = said.file.is_none_or(|name| file.rsplit('/').next() == Some(name));
             for (item, read) in definitions.items.iter().enumerate() {
                 let public = read.marks.iter().any(|mark| mark == "pub");
-                let named = if as_member { read.members().iter().any(|member| member == said.name) } else { read.name == said.name };
+                let named = if as_member {
+                    read.members().iter().any(|member| member == said.name)
+                } else {
+                    read.name == said.name
+                };
                 if fits_file && public && named {
                     found.push(Found::Item(Place { krate, file: file.clone(), item }));
                 }
@@ -231,7 +243,9 @@ fn types_named(project: &Project, crates: &[usize], name: &str) -> Vec<Found> {
     for &krate in crates {
         for (file, code) in &project.crates[krate].code {
             let fits = |&item: &usize| code.items[item].name == name && code.items[item].form != Form::Function;
-            found.extend((0..code.items.len()).filter(fits).map(|item| Found::Item(Place { krate, file: file.clone(), item })));
+            found.extend(
+                (0..code.items.len()).filter(fits).map(|item| Found::Item(Place { krate, file: file.clone(), item })),
+            );
         }
     }
     found
@@ -245,7 +259,10 @@ mod tests {
     fn names_and_what_is_said_of_them() {
         let found = names("`runs::x-y` (OnlyOne.antt of runs), `f (g s)`, `put(a, b)` and `Tied` (Words.antt)", false);
         assert_eq!(found.len(), 3);
-        assert_eq!((found[0].prefix, found[0].file, found[0].krate), (Some("runs"), Some("OnlyOne.antt"), Some("runs")));
+        assert_eq!(
+            (found[0].prefix, found[0].file, found[0].krate),
+            (Some("runs"), Some("OnlyOne.antt"), Some("runs"))
+        );
         assert!(found[1].is_call && !found[2].is_call);
         assert_eq!(found[2].file, Some("Words.antt"));
     }

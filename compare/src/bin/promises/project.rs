@@ -1,6 +1,7 @@
 //! All crates of the repository, read and taken apart.
 
 use crate::antt::{self, Definitions};
+use crate::imports;
 use crate::rt::{self, Code};
 use std::collections::BTreeMap;
 use std::fs;
@@ -49,12 +50,7 @@ impl Project {
                 project.faults.push(format!("crates/{name}: not in crates.txt"));
             }
         }
-        for krate in &project.crates {
-            for (file, definitions) in &krate.specs {
-                let faults = definitions.faults.iter().map(|fault| format!("crates/{}/{file}: {fault}", krate.name));
-                project.faults.extend(faults);
-            }
-        }
+        project.faults.extend(imports::faults(&project, root)?);
         Ok(project)
     }
 
@@ -73,7 +69,10 @@ impl Project {
     }
 
     pub fn name_of(&self, place: &Place) -> String {
-        self.definition(place).map(|item| item.name.clone()).or_else(|| self.code(place).map(rt::Item::full_name)).unwrap_or_default()
+        self.definition(place)
+            .map(|item| item.name.clone())
+            .or_else(|| self.code(place).map(rt::Item::full_name))
+            .unwrap_or_default()
     }
 
     /// The file's path in the repository.
@@ -95,7 +94,8 @@ impl Project {
 }
 
 fn entries_of(folder: &Path) -> io::Result<Vec<PathBuf>> {
-    let mut entries: Vec<PathBuf> = fs::read_dir(folder)?.map(|entry| entry.map(|entry| entry.path())).collect::<Result<_, _>>()?;
+    let mut entries: Vec<PathBuf> =
+        fs::read_dir(folder)?.map(|entry| entry.map(|entry| entry.path())).collect::<Result<_, _>>()?;
     entries.sort();
     Ok(entries)
 }

@@ -46,7 +46,11 @@ impl Reach {
             };
             if new {
                 let in_code = project.code(&place).is_some();
-                let next = if in_code { reach.follow_code(project, &place) } else { reach.follow_definition(project, &place, statement_only) };
+                let next = if in_code {
+                    reach.follow_code(project, &place)
+                } else {
+                    reach.follow_definition(project, &place, statement_only)
+                };
                 ahead.extend(next);
             }
         }
@@ -78,7 +82,8 @@ impl Reach {
         item.clauses.iter().for_each(|(_, clause)| walk.expression(&trees(clause)));
         let names: BTreeSet<String> = walk.found.into_iter().collect();
         let meanings: Vec<_> = names.iter().map(|name| in_contract(project, place.krate, &place.file, name)).collect();
-        let mut found: Vec<Place> = meanings.into_iter().filter_map(|meaning| self.take(project, place, meaning)).collect();
+        let mut found: Vec<Place> =
+            meanings.into_iter().filter_map(|meaning| self.take(project, place, meaning)).collect();
         for path in &item.paths {
             match in_code(project, place.krate, &place.file, path) {
                 Ok(Some(target)) => {
@@ -101,7 +106,12 @@ impl Reach {
             }
             Ok(meaning) => {
                 if let Some((path, name)) = meaning.through {
-                    self.brought.entry((place.krate, place.file.clone())).or_default().entry(path).or_default().insert(name);
+                    self.brought
+                        .entry((place.krate, place.file.clone()))
+                        .or_default()
+                        .entry(path)
+                        .or_default()
+                        .insert(name);
                 }
                 match meaning.target {
                     Target::Item(target) => Some(target),
@@ -115,7 +125,12 @@ impl Reach {
     fn note_code(&mut self, project: &Project, place: &Place, path: &[String], target: &Place) {
         if (target.krate, &target.file) != (place.krate, &place.file) {
             let home = project.path_of(target.krate, &target.file);
-            self.brought.entry((place.krate, place.file.clone())).or_default().entry(home).or_default().insert(path.join("::"));
+            self.brought
+                .entry((place.krate, place.file.clone()))
+                .or_default()
+                .entry(home)
+                .or_default()
+                .insert(path.join("::"));
         }
     }
 
@@ -156,7 +171,10 @@ fn is_relation(word: &str) -> bool {
 
 /// Whether a name is a function into types whose clauses say a relation.
 fn is_predicate(project: &Project, place: &Place, word: &str) -> bool {
-    let Ok(Meaning { target: Target::Item(target), .. }) = in_definitions(project, place.krate, &place.file, word) else { return false };
+    let Ok(Meaning { target: Target::Item(target), .. }) = in_definitions(project, place.krate, &place.file, word)
+    else {
+        return false;
+    };
     let Some(item) = project.definition(&target) else { return false };
     let gives_type = item.head.iter().rev().nth(1).is_some_and(|token| token.is_word("Type"));
     let words = item.parts.iter().flat_map(|part| part.iter().map(|token| token.text.as_str()));

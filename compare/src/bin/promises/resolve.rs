@@ -8,7 +8,8 @@ use crate::rt;
 const PRELUDE: [&str; 10] = ["⊥", "¬_", "Unit", "absurd", "Dec", "yes", "no", "omega", "rw", "cc"];
 
 /// Constructors of the kit's library that patterns here are made of. Of the repository's own types they are known.
-const KIT_CONSTRUCTORS: [&str; 13] = ["true", "false", "zero", "suc", "[]", "_∷_", "pos", "negsuc", "inl", "inr", "refl", "yes", "no"];
+const KIT_CONSTRUCTORS: [&str; 13] =
+    ["true", "false", "zero", "suc", "[]", "_∷_", "pos", "negsuc", "inl", "inr", "refl", "yes", "no"];
 
 #[derive(Clone, Debug, PartialEq)]
 pub enum Target {
@@ -57,7 +58,9 @@ fn one_of(mut found: Vec<Meaning>, word: &str) -> Result<Meaning, String> {
     match found.len() {
         1 => Ok(found.remove(0)),
         0 => match PRELUDE.iter().find(|name| says(name, word)) {
-            Some(name) => Ok(Meaning { target: Target::Kit, constructor: KIT_CONSTRUCTORS.contains(name), through: None }),
+            Some(name) => {
+                Ok(Meaning { target: Target::Kit, constructor: KIT_CONSTRUCTORS.contains(name), through: None })
+            }
             None => Err(format!("the name {word} is not known")),
         },
         _ => Err(format!("the name {word} has {} meanings", found.len())),
@@ -88,7 +91,11 @@ fn through_uses(project: &Project, uses: &[Use], word: &str) -> Result<Vec<Meani
     let Some((head, name)) = word.rsplit_once('.').filter(|_| found.is_empty()) else { return Ok(found) };
     if let Some(line) = uses.iter().find(|line| line.alias.as_deref() == Some(head)) {
         let (target, constructor) = at_path(project, &line.path, name)?;
-        found.push(Meaning { target, constructor, through: Some((format!("{} as {head}", line.path), name.to_string())) });
+        found.push(Meaning {
+            target,
+            constructor,
+            through: Some((format!("{} as {head}", line.path), name.to_string())),
+        });
     } else if word.starts_with("Rattle·") {
         let (target, constructor) = at_path(project, head, name)?;
         found.push(Meaning { target, constructor, through: Some((head.to_string(), name.to_string())) });
@@ -124,7 +131,11 @@ fn at_path(project: &Project, path: &str, name: &str) -> Result<(Target, bool), 
 fn declared(project: &Project, krate: usize, kind: &str) -> Option<Place> {
     let mut found = project.crates[krate].code.iter().flat_map(|(file, code)| {
         let fits = |item: &rt::Item| item.name == kind && matches!(item.form, rt::Form::Struct | rt::Form::Enum);
-        (0..code.items.len()).filter(move |&at| fits(&code.items[at])).map(move |item| Place { krate, file: file.clone(), item })
+        (0..code.items.len()).filter(move |&at| fits(&code.items[at])).map(move |item| Place {
+            krate,
+            file: file.clone(),
+            item,
+        })
     });
     let first = found.next()?;
     found.next().is_none().then_some(first)
@@ -156,7 +167,10 @@ pub fn in_code(project: &Project, krate: usize, file: &str, path: &[String]) -> 
     let code = &project.crates[krate].code[file];
     let unknown = || format!("the name {} is not known", path.join("::"));
     let first = path.first().ok_or_else(unknown)?;
-    let own = code.items.iter().position(|item| item.name == *first && item.owner.is_none() && item.form != rt::Form::Function);
+    let own = code
+        .items
+        .iter()
+        .position(|item| item.name == *first && item.owner.is_none() && item.form != rt::Form::Function);
     if let Some(item) = own {
         let place = Place { krate, file: file.to_string(), item };
         return member_of(project, place, &path[1..]).map(Some).ok_or_else(unknown);
@@ -178,7 +192,8 @@ pub fn in_code(project: &Project, krate: usize, file: &str, path: &[String]) -> 
 
 /// The item of a crate at a path without the crate's name; modules on the way are passed over.
 fn in_crate(project: &Project, krate: usize, path: &[String]) -> Option<Place> {
-    let modules = path.iter().take_while(|name| project.crates[krate].code.contains_key(&format!("src/{name}.rt"))).count();
+    let modules =
+        path.iter().take_while(|name| project.crates[krate].code.contains_key(&format!("src/{name}.rt"))).count();
     let path = &path[modules..];
     for (file, code) in &project.crates[krate].code {
         let found = code.items.iter().position(|item| item.owner.is_none() && Some(&item.name) == path.first());
@@ -197,7 +212,8 @@ fn member_of(project: &Project, place: Place, rest: &[String]) -> Option<Place> 
         return Some(place);
     }
     for (file, code) in &project.crates[place.krate].code {
-        let found = code.items.iter().position(|member| member.owner.as_ref() == Some(&item.name) && member.name == *name);
+        let found =
+            code.items.iter().position(|member| member.owner.as_ref() == Some(&item.name) && member.name == *name);
         if let Some(at) = found {
             return Some(Place { krate: place.krate, file: file.clone(), item: at });
         }

@@ -78,6 +78,10 @@ fn pieces(source: &[char]) -> Vec<Placed> {
             at += 1;
         } else if c == '/' && next == '/' {
             at = place_after(source, at, '\n');
+        } else if c == '/' && next == '*' {
+            at = (at + 2..source.len())
+                .find(|&end| source[end] == '/' && source[end - 1] == '*')
+                .map_or(source.len(), |end| end + 1);
         } else {
             let (piece, end) = piece_at(source, at);
             found.push((piece, at, end));
@@ -246,7 +250,14 @@ fn read_inner(source: &[char], item: &[Placed], keyword: usize, code: &mut Code)
 }
 
 /// A public function, a type or a constant. Other functions are no part of what is promised.
-fn read_item(source: &[char], item: &[Placed], word: &str, keyword: usize, owner: Option<(&str, &str)>, code: &mut Code) {
+fn read_item(
+    source: &[char],
+    item: &[Placed],
+    word: &str,
+    keyword: usize,
+    owner: Option<(&str, &str)>,
+    code: &mut Code,
+) {
     let form = match word {
         "fn" => Form::Function,
         "struct" => Form::Struct,
@@ -274,7 +285,10 @@ fn read_item(source: &[char], item: &[Placed], word: &str, keyword: usize, owner
 fn normal_lines(source: &[char], from: usize, to: usize) -> Vec<String> {
     let begin = source[..from].iter().rposition(|&c| c == '\n').map_or(0, |at| at + 1);
     let whole = text_of(&source[begin..to]);
-    let lines = whole.lines().map(|line| line.split("//").next().unwrap_or("").trim_end()).filter(|line| !line.trim().is_empty());
+    let lines = whole
+        .lines()
+        .map(|line| line.split("//").next().unwrap_or("").trim_end())
+        .filter(|line| !line.trim().is_empty());
     let indent_of = |line: &str| line.len() - line.trim_start().len();
     let one_space = |line: &str| line.split_whitespace().collect::<Vec<_>>().join(" ");
     lines.map(|line| " ".repeat(indent_of(line).saturating_sub(from - begin)) + &one_space(line)).collect()
@@ -335,7 +349,8 @@ fn path_at(said: &[Placed], from: usize, first: &str) -> (Vec<String>, usize) {
 /// Words that name no item: those of the language, its own types, numbers and lifetimes.
 fn is_code_word(word: &str) -> bool {
     const WORDS: [&str; 19] = [
-        "pub", "mut", "self", "Self", "bool", "u8", "u16", "u32", "u64", "usize", "i8", "i16", "i32", "i64", "isize", "u128", "i128", "str", "as",
+        "pub", "mut", "self", "Self", "bool", "u8", "u16", "u32", "u64", "usize", "i8", "i16", "i32", "i64", "isize",
+        "u128", "i128", "str", "as",
     ];
     WORDS.contains(&word) || word.starts_with(|c: char| c.is_ascii_digit() || c == '\'')
 }

@@ -4,7 +4,7 @@ use crate::antt::{Form, Item};
 use crate::project::{Place, Project};
 use crate::reach::Reach;
 use crate::tokens::as_lines;
-use std::collections::BTreeMap;
+use std::collections::BTreeSet;
 
 const HEADER: &str = "\
 # What has to be believed, whole: the contract of every public function, what every theorem says that docs/PROMISES.md names, and every definition that
@@ -99,23 +99,31 @@ fn entries(text: &str) -> Vec<(String, String)> {
 
 /// What was removed from the page that stands, and what is new, each with its file. A change is both.
 pub fn differences(stands: &str, now: &str) -> Vec<String> {
-    let count = |text: &str| {
-        let mut counts: BTreeMap<(String, String), isize> = BTreeMap::new();
-        entries(text).into_iter().for_each(|entry| *counts.entry(entry).or_default() += 1);
-        counts
-    };
-    let (old, new) = (count(stands), count(now));
-    let mut found = Vec::new();
-    for entry in old.keys().filter(|entry| !new.contains_key(entry)) {
-        found.push((entry.0.clone(), format!("{}: removed:\n{}", entry.0, entry.1)));
-    }
-    for entry in new.keys().filter(|entry| !old.contains_key(entry)) {
-        found.push((entry.0.clone(), format!("{}: added:\n{}", entry.0, entry.1)));
-    }
-    found.sort_by(|one, other| one.0.cmp(&other.0));
-    let mut found: Vec<String> = found.into_iter().map(|(_, text)| text).collect();
+    let (old, new): (BTreeSet<_>, BTreeSet<_>) =
+        (entries(stands).into_iter().collect(), entries(now).into_iter().collect());
+    let removed = old.difference(&new).map(|(file, entry)| (file, 0, entry));
+    let added = new.difference(&old).map(|(file, entry)| (file, 1, entry));
+    let mut both: Vec<(&String, usize, &String)> = removed.chain(added).collect();
+    both.sort();
+    let mut found: Vec<String> =
+        both.iter().map(|(file, at, entry)| format!("{file}: {}:\n{entry}", ["removed", "added"][*at])).collect();
     if found.is_empty() && stands != now {
         found.push("docs/STATEMENTS.txt: another order, another header, or an entry twice".to_string());
     }
     found
+}
+
+#[cfg(test)]
+mod tests {
+    use super::*;
+
+    #[test]
+    fn a_changed_entry_is_removed_and_added() {
+        let (old, new) = ("== Part 1: x\n\ncrates/a\n  f\n    g\n  h\n", "== Part 1: x\n\ncrates/a\n  f\n    k\n  h\n");
+        assert_eq!(
+            differences(old, new),
+            ["Part 1, crates/a: removed:\n  f\n    g", "Part 1, crates/a: added:\n  f\n    k"]
+        );
+        assert!(differences(old, old).is_empty());
+    }
 }

@@ -6,7 +6,7 @@ use std::fs;
 use std::io;
 use std::path::{Path, PathBuf};
 
-/// A text in a file that becomes another. The file is looked for by its name below the crate's folder; without a crate it is a path in the repository.
+/// A text in a file that becomes another. The file is looked for by its name anywhere in the crate; without a crate it is a path in the repository.
 struct Edit {
     krate: &'static str,
     file: &'static str,
@@ -194,7 +194,27 @@ const WEAKENINGS: &[Weakening] = &[
         edits: &[edit("number", "OnlyOne.antt", "-- ---- read_number\n", "abbrev ⊥ : Type 0\n⊥ = Unit {0}\n\n-- ---- read_number\n")],
         mentions: "⊥ = Unit",
     },
+    Weakening {
+        label: "a library's name that a file takes for another",
+        edits: &[edit("number", "Number.antt", "use lib.Dec.{ltb, leb, eqb}\n", "use Rattle.number.specs.Steps as lib\nuse lib.Dec.{ltb, leb, eqb}\n")],
+        mentions: "the path lib.Dec",
+    },
+    Weakening {
+        label: "names that a line brings without listing them",
+        edits: &[edit("number", "OnlyOne.antt", "use Prim.Native.Nat.{ℕ}\n", "use Prim.Native.Nat.{ℕ}\nuse Kid.*\n")],
+        mentions: "Kid.*",
+    },
     // ---- theorems and the page
+    Weakening {
+        label: "a file of theorems that isn't proved any more",
+        edits: &[edit("counts", "Lib.antt", "pub mod InUse\n", "")],
+        mentions: "InUse.antt: not listed",
+    },
+    Weakening {
+        label: "a lemma in a proof that is assumed",
+        edits: &[edit("counts", "Requests.antt", "ends-one : (c : ℕ)", "axiom ends-one : (c : ℕ)")],
+        mentions: "has an axiom",
+    },
     Weakening {
         label: "a theorem under another name",
         edits: &[edit(
@@ -262,7 +282,8 @@ impl Drop for Copy {
 impl Copy {
     fn of(root: &Path) -> io::Result<Copy> {
         let copy = Copy { root: std::env::temp_dir().join(format!("promises-{}", std::process::id())) };
-        let mut files: Vec<String> = ["crates.txt", "README.md", "docs/PROMISES.md", "docs/STATEMENTS.txt"].map(String::from).to_vec();
+        let mut files: Vec<String> =
+            ["crates.txt", "README.md", "docs/PROMISES.md", "docs/STATEMENTS.txt"].map(String::from).to_vec();
         for ending in [".antt", ".rt", ".edit"] {
             files.extend(files_below(root, "crates", ending)?.into_iter().map(|(file, _)| file));
         }
@@ -278,22 +299,19 @@ impl Copy {
         Examined::read(&self.root)?.faults(&self.root)
     }
 
-    /// The one file that has the old text once, and its text. Files of one name in two folders are told apart by it.
+    /// The one file that has the old text once, and its text: one of that name in any folder, or else any file of the crate, if it has moved.
     fn find(&self, edit: &Edit) -> io::Result<Option<(PathBuf, String)>> {
-        let candidates: Vec<PathBuf> = if edit.krate.is_empty() {
-            vec![self.root.join(edit.file)]
-        } else {
-            let base = self.root.join("crates").join(edit.krate);
-            let ending = format!("/{}", edit.file);
-            let all = [files_below(&base, "specs", &ending)?, files_below(&base, "src", &ending)?].concat();
-            all.into_iter().map(|(_, path)| path).collect()
-        };
-        let mut found = Vec::new();
-        for path in candidates {
-            let text = fs::read_to_string(&path)?;
-            found.extend(std::iter::repeat_n((path, text.clone()), text.matches(edit.old).count()));
+        if edit.krate.is_empty() {
+            return with_text(vec![self.root.join(edit.file)], edit.old);
         }
-        Ok(if found.len() == 1 { found.pop() } else { None })
+        let base = self.root.join("crates").join(edit.krate);
+        let all = [files_below(&base, "specs", ".antt")?, files_below(&base, "src", ".rt")?].concat();
+        let (named, others): (Vec<_>, Vec<_>) =
+            all.into_iter().map(|(_, path)| path).partition(|path| path.ends_with(edit.file));
+        match with_text(named, edit.old)? {
+            Some(found) => Ok(Some(found)),
+            None => with_text(others, edit.old),
+        }
     }
 
     /// What is found where the copy is weakened; it is then put back as it was. None where a text to change isn't there once.
@@ -312,6 +330,17 @@ impl Copy {
     }
 }
 
+/// The file and its text, where just one of the files has the old text just once.
+fn with_text(paths: Vec<PathBuf>, old: &str) -> io::Result<Option<(PathBuf, String)>> {
+    let mut found = Vec::new();
+    for path in paths {
+        let text = fs::read_to_string(&path)?;
+        let times = text.matches(old).count();
+        found.extend(std::iter::repeat_n((path, text), times));
+    }
+    Ok(if found.len() == 1 { found.pop() } else { None })
+}
+
 /// Tries them all; prints those that were not found.
 pub fn run(root: &Path) -> io::Result<bool> {
     let copy = Copy::of(root)?;
@@ -322,7 +351,9 @@ pub fn run(root: &Path) -> io::Result<bool> {
         let trouble = match copy.weakened(weakening)? {
             None => Some("its text isn't there exactly once"),
             Some(faults) if faults.is_empty() => Some("not found"),
-            Some(faults) if !faults.iter().any(|fault| fault.contains(weakening.mentions)) => Some("found, and not named"),
+            Some(faults) if !faults.iter().any(|fault| fault.contains(weakening.mentions)) => {
+                Some("found, and not named")
+            }
             Some(_) => None,
         };
         if let Some(trouble) = trouble {
