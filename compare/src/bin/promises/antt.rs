@@ -124,7 +124,7 @@ pub fn read_block(block: &[Token], headers: &[Vec<Token>], found: &mut Definitio
 
 /// A module's header joins those of its items.
 fn read_module(chunk: &[Token], headers: &[Vec<Token>], found: &mut Definitions) {
-    let Some(end) = place_of(chunk, &["where"]) else {
+    let Some(end) = place_of(chunk, &["where"]).filter(|&end| end >= 2) else {
         found.faults.push(misunderstood(chunk));
         return;
     };
@@ -151,9 +151,8 @@ fn read_type(chunk: &[Token], form: Form, marks: Vec<String>, headers: &[Vec<Tok
 /// A signature, or a clause of the function whose signature came last.
 fn read_function_part(chunk: &[Token], marks: Vec<String>, headers: &[Vec<Token>], found: &mut Definitions) {
     let name = &chunk[marks.len().min(chunk.len() - 1)].text;
-    let colon = place_of(chunk, &[":", "="]).filter(|&at| chunk[at].text == ":");
-    if let Some(at) = colon.filter(|&at| is_signature(&chunk[marks.len()..at])) {
-        let _ = at;
+    let colon = place_of(chunk, &[":", "="]).filter(|&at| chunk[at].text == ":" && marks.len() <= at);
+    if colon.is_some_and(|at| is_signature(&chunk[marks.len()..at])) {
         let (name, head) = (name.clone(), chunk.to_vec());
         let headers = headers.to_vec();
         found.items.push(Item { name, form: Form::Function, marks, headers, head, parts: Vec::new() });
@@ -227,7 +226,20 @@ fn read_used_name(part: &[Token]) -> Option<(String, String)> {
 mod tests {
     use super::*;
 
-    const SOURCE: &str = "use a.B.{c, d as e}\nmodule _ (n : ℕ) where\n  module _ {k : ℕ} where\n    -- why\n    pub thm : n ≡ k\n        → k ≡ n\n    unfolding f\n    thm p = sym p\n\npub record R (x : A) : Type 0 where\n  pub one : A\n  pub two : B\n";
+    const SOURCE: &str = "\
+use a.B.{c, d as e}
+module _ (n : ℕ) where
+  module _ {k : ℕ} where
+    -- why
+    pub thm : n ≡ k
+        → k ≡ n
+    unfolding f
+    thm p = sym p
+
+pub record R (x : A) : Type 0 where
+  pub one : A
+  pub two : B
+";
 
     #[test]
     fn items_have_headers_and_parts() {

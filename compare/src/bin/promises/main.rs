@@ -18,7 +18,7 @@ mod trees;
 mod weakenings;
 
 use examine::Examined;
-use std::io;
+use std::io::{self, Write};
 use std::path::Path;
 use std::process::ExitCode;
 
@@ -53,6 +53,11 @@ fn main() -> ExitCode {
     }
 }
 
+/// Prints a line. Whoever reads may stop before the end.
+pub fn say(line: &str) {
+    let _ = writeln!(io::stdout(), "{line}");
+}
+
 /// Prints each fault and the counts.
 fn check(root: &Path, with_layout: bool) -> io::Result<bool> {
     let examined = Examined::read(root)?;
@@ -62,19 +67,18 @@ fn check(root: &Path, with_layout: bool) -> io::Result<bool> {
     }
     print_all(&faults);
     let reach = &examined.reach;
-    println!("promises: {} names of docs/PROMISES.md looked up", examined.page.tried);
-    println!(
-        "promises: {} contracts, {} theorems and {} definitions held to docs/STATEMENTS.txt, {} faults",
-        reach.contracts.len(),
-        reach.theorems.len(),
-        reach.definitions.len(),
-        faults.len()
+    say(&format!("promises: {} names of docs/PROMISES.md looked up", examined.page.tried));
+    let counts = (reach.contracts.len(), reach.theorems.len(), reach.definitions.len());
+    let held = format!(
+        "{} contracts, {} theorems and {} definitions held to docs/STATEMENTS.txt",
+        counts.0, counts.1, counts.2
     );
+    say(&format!("promises: {held}, {} faults", faults.len()));
     Ok(faults.is_empty())
 }
 
 fn print_all(faults: &[String]) {
-    faults.iter().for_each(|fault| println!("promises: {fault}"));
+    faults.iter().for_each(|fault| say(&format!("promises: {fault}")));
 }
 
 /// Writes what can be written; what then is still wrong is printed.
@@ -87,12 +91,12 @@ fn write(root: &Path) -> io::Result<bool> {
     }
     let faults = examined.faults(root)?;
     print_all(&faults);
-    println!("promises: docs/STATEMENTS.txt is written, {} faults are left", faults.len());
+    say(&format!("promises: docs/STATEMENTS.txt is written, {} faults are left", faults.len()));
     Ok(faults.is_empty())
 }
 
 fn files(root: &Path) -> io::Result<bool> {
     let examined = Examined::read(root)?;
-    layout::files(&examined.project, &examined.reach).into_values().flatten().for_each(|file| println!("{file}"));
+    layout::files(&examined.project, &examined.reach).into_values().flatten().for_each(|file| say(&file));
     Ok(true)
 }

@@ -359,7 +359,27 @@ fn is_code_word(word: &str) -> bool {
 mod tests {
     use super::*;
 
-    const SOURCE: &str = "ghost use a.B.{c};\nuse method::Held;\n\npub enum E {\n    One(Cell, i32),\n    Two { at: Held },\n}\n\nimpl Rack {\n    pub const N: usize = slots::SLOTS;\n\n    // why\n    pub fn made(n: u32, rack: &mut [Rack; 8]) -> Made\n        requires { ⌜ n ≤ 4 ⌝ }\n        ensures { λ r. ⌜ r ≡ f (record { n = n }) ⌝ }\n    {\n        if n < 1 { return '{'; }\n    }\n}\n";
+    const SOURCE: &str = "\
+ghost use a.B.{c};
+use method::Held;
+
+pub enum E {
+    One(Cell, i32),
+    Two { at: Held },
+}
+
+impl Rack {
+    pub const N: usize = slots::SLOTS;
+
+    // why
+    pub fn made(n: u32, rack: &mut [Rack; 8]) -> Made
+        requires { ⌜ n ≤ 4 ⌝ }
+        ensures { λ r. ⌜ r ≡ f (record { n = n }) ⌝ }
+    {
+        if n < 1 { return '{'; }
+    }
+}
+";
 
     #[test]
     fn items_of_code() {

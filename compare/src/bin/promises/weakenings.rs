@@ -2,6 +2,7 @@
 
 use crate::examine::Examined;
 use crate::project::files_below;
+use crate::say;
 use std::fs;
 use std::io;
 use std::path::{Path, PathBuf};
@@ -79,7 +80,12 @@ const WEAKENINGS: &[Weakening] = &[
             edit(
                 "sheet",
                 "Sheet.antt",
-                "  pub early-5 : Says\n      (0x00 ∷ 0x01 ∷ 0x02 ∷ 0x02 ∷ 0x01 ∷ 0x0A ∷ 0x01 ∷ 0x00 ∷ 0x02 ∷ 0x0A ∷ 0x03 ∷ 0x00 ∷ [])\n      (reads 1 2 ∷ told 1 (pos 5) ∷ writes 0 2 (pos 5) ∷ done 0 ∷ [])\n      (unlawful 2)\n",
+                concat!(
+                    "  pub early-5 : Says\n",
+                    "      (0x00 ∷ 0x01 ∷ 0x02 ∷ 0x02 ∷ 0x01 ∷ 0x0A ∷ 0x01 ∷ 0x00 ∷ 0x02 ∷ 0x0A ∷ 0x03 ∷ 0x00 ∷ [])\n",
+                    "      (reads 1 2 ∷ told 1 (pos 5) ∷ writes 0 2 (pos 5) ∷ done 0 ∷ [])\n",
+                    "      (unlawful 2)\n"
+                ),
                 "",
             ),
             edit("sheet", "Shown.antt", "      early-5 = unlawful-line refl refl refl refl refl refl tt;\n", ""),
@@ -185,7 +191,12 @@ const WEAKENINGS: &[Weakening] = &[
         label: "a definition behind another of the same name in another crate",
         edits: &[
             edit("promise", "Promise.antt", "use Rattle.law.specs.Order.{Lawful}\n", "use Rattle.stamps.specs.Stamp.{Lawful}\n"),
-            edit("stamps", "Stamp.antt", "-- stamp (0, 0) with value 0\n", "abbrev pub Lawful : {A : Type 0} → A → Type 0\nLawful s = Unit {0}\n\n-- stamp (0, 0) with value 0\n"),
+            edit(
+                "stamps",
+                "Stamp.antt",
+                "-- stamp (0, 0) with value 0\n",
+                "abbrev pub Lawful : {A : Type 0} → A → Type 0\nLawful s = Unit {0}\n\n-- stamp (0, 0) with value 0\n",
+            ),
         ],
         mentions: "Lawful s = Unit",
     },
@@ -345,7 +356,7 @@ fn with_text(paths: Vec<PathBuf>, old: &str) -> io::Result<Option<(PathBuf, Stri
 pub fn run(root: &Path) -> io::Result<bool> {
     let copy = Copy::of(root)?;
     let at_first = copy.faults()?;
-    at_first.iter().for_each(|fault| println!("promises: of the copy as it is: {fault}"));
+    at_first.iter().for_each(|fault| say(&format!("promises: of the copy as it is: {fault}")));
     let mut wrong = at_first.len();
     for weakening in WEAKENINGS {
         let trouble = match copy.weakened(weakening)? {
@@ -357,15 +368,15 @@ pub fn run(root: &Path) -> io::Result<bool> {
             Some(_) => None,
         };
         if let Some(trouble) = trouble {
-            println!("promises: {}: {trouble}", weakening.label);
+            say(&format!("promises: {}: {trouble}", weakening.label));
             wrong += 1;
         }
     }
     let after = copy.faults()?;
     if after != at_first {
-        println!("promises: the copy isn't as it was");
+        say("promises: the copy isn't as it was");
         wrong += 1;
     }
-    println!("promises: {} weakenings tried, {wrong} faults", WEAKENINGS.len());
+    say(&format!("promises: {} weakenings tried, {wrong} faults", WEAKENINGS.len()));
     Ok(wrong == 0)
 }
