@@ -11,23 +11,32 @@ use std::path::Path;
 pub fn faults(project: &Project, root: &Path) -> io::Result<Vec<String>> {
     let mut found = Vec::new();
     for krate in &project.crates {
-        for (file, definitions) in &krate.specs {
-            let path = format!("crates/{}/{file}", krate.name);
-            found.extend(
-                definitions.faults.iter().chain(&misleading(definitions)).map(|fault| format!("{path}: {fault}")),
-            );
-            found.extend(unlisted(krate, file).map(|fault| format!("{path}: {fault}")));
-        }
+        found
+            .extend(faults_of(krate).into_iter().map(|(file, fault)| format!("crates/{}/{file}: {fault}", krate.name)));
         let base = root.join("crates").join(&krate.name);
         for folder in ["specs", "proofs"] {
             for (file, path) in files_below(&base, folder, ".antt")? {
-                if assumes(&tokens(&fs::read_to_string(path)?)) {
+                if assumes(&fs::read_to_string(path)?) {
                     found.push(format!("crates/{}/{file}: has an axiom", krate.name));
                 }
             }
         }
     }
     Ok(found)
+}
+
+/// The faults of a crate's lines, each with its file.
+fn faults_of(krate: &Crate) -> Vec<(&String, String)> {
+    let mut found = Vec::new();
+    for (file, definitions) in &krate.specs {
+        let faults = definitions.faults.iter().cloned().chain(misleading(definitions)).chain(unlisted(krate, file));
+        found.extend(faults.map(|fault| (file, fault)));
+    }
+    for (file, code) in &krate.code {
+        let ghost = Definitions { uses: code.ghost_uses.clone(), ..Definitions::default() };
+        found.extend(misleading(&ghost).into_iter().chain(unlisted(krate, file)).map(|fault| (file, fault)));
+    }
+    found
 }
 
 /// `use` lines that bring names which they don't list, and paths that begin with a name which the file itself brings: they would lead elsewhere.
@@ -52,19 +61,30 @@ fn misleading(definitions: &Definitions) -> Vec<String> {
     found
 }
 
-/// A file is proved only where the one above it lists it: Lib.antt, or the file with the name of its folder.
+/// A file is proved only where the one above it lists it: the crate's first, or the one with the name of its folder.
 fn unlisted(krate: &Crate, file: &str) -> Option<String> {
-    let (folder, name) = file.trim_end_matches(".antt").rsplit_once('/')?;
-    if file == "specs/Lib.antt" {
+    const FIRST: [&str; 3] = ["specs/Lib.antt", "src/lib.rt", "src/main.rt"];
+    if FIRST.contains(&file) {
         return None;
     }
-    let list = if folder == "specs" { "specs/Lib.antt".to_string() } else { format!("{folder}.antt") };
-    let listed = krate.specs.get(&list).is_some_and(|above| above.modules.iter().any(|module| module == name));
-    (!listed).then(|| format!("not listed in {list}, so it isn't proved"))
+    let (folder, name) = file.rsplit_once('/')?;
+    let (name, ending) = name.rsplit_once('.')?;
+    let is_top = folder == "specs" || folder == "src";
+    let above = if is_top { FIRST.map(String::from).to_vec() } else { vec![format!("{folder}.{ending}")] };
+    let lists = |list: &String| {
+        let modules =
+            krate.specs.get(list).map(|above| &above.modules).or(krate.code.get(list).map(|above| &above.modules));
+        list.ends_with(ending) && modules.is_some_and(|modules| modules.iter().any(|module| module == name))
+    };
+    (!above.iter().any(lists)).then(|| "no file above lists it, so it isn't proved".to_string())
 }
 
 /// Whether a text declares an axiom, or uses one of the prelude's.
-fn assumes(text: &[Token]) -> bool {
+fn assumes(text: &str) -> bool {
+    if !text.contains("axiom") && !text.contains("Axiom") {
+        return false;
+    }
+    let words = tokens(text);
     let prelude = |three: &[Token]| three[0].text == "Prim" && three[1].text == "." && three[2].text == "Axiom";
-    text.iter().any(|token| token.is_word("axiom")) || text.windows(3).any(prelude)
+    words.iter().any(|token| token.is_word("axiom")) || words.windows(3).any(prelude)
 }

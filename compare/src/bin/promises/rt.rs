@@ -53,6 +53,8 @@ pub struct Code {
     pub ghost_uses: Vec<Use>,
     /// Ordinary `use` lines: the name here, and its path.
     pub uses: Vec<(String, Vec<String>)>,
+    /// Lines of the kind `pub mod NAME;`.
+    pub modules: Vec<String>,
     pub items: Vec<Item>,
 }
 
@@ -145,8 +147,8 @@ fn end_of_quoted(source: &[char], from: usize, quote: char) -> usize {
 /// The place after the brace that closes the next open one.
 fn end_of_braces(source: &[char], from: usize) -> usize {
     let mut depth = 0;
-    for at in from..source.len() {
-        match source[at] {
+    for (at, c) in source.iter().enumerate().skip(from) {
+        match c {
             '{' => depth += 1,
             '}' if depth == 1 => return at + 1,
             '}' => depth -= 1,
@@ -239,12 +241,16 @@ fn word_of(piece: &Piece) -> Option<&str> {
     }
 }
 
-/// What stands in the braces of an `impl` or a module.
+/// What stands in the braces of an `impl` or a module, or the name of a module that is a file of its own.
 fn read_inner(source: &[char], item: &[Placed], keyword: usize, code: &mut Code) {
-    let Some(open) = item.iter().position(|piece| is_mark(Some(piece), '{')) else { return };
+    let open = item.iter().position(|piece| is_mark(Some(piece), '{')).unwrap_or(item.len());
+    let mut words = item[keyword + 1..open].iter().filter_map(|(piece, _, _)| word_of(piece));
+    let name = words.find(|word| !word.starts_with('\'')).unwrap_or("").to_string();
+    if open == item.len() {
+        code.modules.push(name);
+        return;
+    }
     let header = normal_lines(source, item[0].1, item[open].1).join(" ");
-    let words = item[keyword + 1..open].iter().filter_map(|(piece, _, _)| word_of(piece));
-    let name = words.into_iter().find(|word| !word.starts_with('\'')).unwrap_or("").to_string();
     let owner = is(item.get(keyword), "impl").then_some((name.as_str(), header.as_str()));
     read_items(source, &item[open + 1..item.len() - 1], owner, code);
 }

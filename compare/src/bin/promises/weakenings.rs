@@ -219,7 +219,12 @@ const WEAKENINGS: &[Weakening] = &[
     Weakening {
         label: "a file of theorems that isn't proved any more",
         edits: &[edit("counts", "Lib.antt", "pub mod InUse\n", "")],
-        mentions: "InUse.antt: not listed",
+        mentions: "InUse.antt: no file above",
+    },
+    Weakening {
+        label: "a file of public functions that isn't proved any more",
+        edits: &[edit("rack", "lib.rt", "pub mod owed;\n", "")],
+        mentions: "owed.rt: no file above",
     },
     Weakening {
         label: "a lemma in a proof that is assumed",
@@ -293,6 +298,9 @@ impl Drop for Copy {
 impl Copy {
     fn of(root: &Path) -> io::Result<Copy> {
         let copy = Copy { root: std::env::temp_dir().join(format!("promises-{}", std::process::id())) };
+        if copy.root.exists() {
+            fs::remove_dir_all(&copy.root)?;
+        }
         let mut files: Vec<String> =
             ["crates.txt", "README.md", "docs/PROMISES.md", "docs/STATEMENTS.txt"].map(String::from).to_vec();
         for ending in [".antt", ".rt", ".edit"] {
