@@ -4,6 +4,7 @@ ghost use Rattle.number.specs.Number.{numberAt};
 ghost use Rattle.record.specs.Entry.{upTo, fieldsAt, entryAt};
 ghost use Rattle.record.specs.Record.{recordOf, surveyOf};
 ghost use Rattle.reader.specs.Head.{underHead, placeAfter, headAfter};
+ghost use Rattle.reader.specs.laws.Survey.{begun, goesOn, stopped, afterFound, answerOf};
 use number::Number;
 use record::Answer;
 use record::Cell;
@@ -111,31 +112,87 @@ pub fn entry_at(s: &[u8], at: usize) -> Found
     head.take()
 }
 
-// How many entries the bytes hold, or the first fault.
+// How far a survey has come: what each client has open, how many entries were taken, and what stopped it (0: nothing).
+struct Progress {
+    standing: Standing,
+    taken: usize,
+    fault: u8,
+}
+
+// Before the first entry.
+fn begun() -> Progress
+    ensures { λ r. ⌜ r ≡ begun ⌝ }
+{
+    Progress {
+        standing: Standing::fresh(),
+        taken: 0,
+        fault: 0,
+    }
+}
+
+// Whether an entry is due, at a place of so many bytes.
+fn goes_on(progress: Progress, place: usize, length: usize) -> bool
+    ensures { λ r. ⌜ r ≡ goesOn progress place length ⌝ }
+{
+    progress.fault == 0 && place < length
+}
+
+// Stopped where the next entry is due.
+fn stopped(progress: Progress, fault: u8) -> Progress
+    ensures { λ r. ⌜ r ≡ stopped progress fault ⌝ }
+{
+    let standing = progress.standing;
+    Progress {
+        standing,
+        taken: progress.taken,
+        fault,
+    }
+}
+
+// After what was found where an entry is due.
+fn after(progress: Progress, found: Found) -> Progress
+    ensures { λ r. ⌜ r ≡ afterFound progress found ⌝ }
+{
+    let standing = progress.standing;
+    let n = progress.taken;
+    if ENTRY_LIMIT <= n {
+        return stopped(progress, 28);
+    }
+    match found {
+        Found::Fault(k) => stopped(progress, k),
+        Found::At(e, _) => {
+            let fault = standing.fault(e);
+            if fault != 0 {
+                return stopped(progress, fault);
+            }
+            Progress {
+                standing: standing.after(e),
+                taken: n + 1,
+                fault: 0,
+            }
+        }
+    }
+}
+
+// How many entries were taken, or what stopped the survey.
+fn answer_of(progress: Progress) -> Answer
+    ensures { λ r. ⌜ r ≡ answerOf progress ⌝ }
+{
+    if progress.fault != 0 {
+        return Answer::Refused(progress.fault, progress.taken);
+    }
+    Answer::All(progress.taken)
+}
+
+// How many entries the bytes hold, or the first fault. One head takes them all.
 pub fn survey(s: &[u8]) -> Answer
     ensures { λ r. ⌜ r ≡ surveyOf (recordOf (now (s .entry))) ⌝ }
 {
-    let mut st = Standing::fresh();
-    let mut at = 0;
-    let mut n: usize = 0;
-    while at < s.len() {
-        if n == ENTRY_LIMIT {
-            return Answer::Refused(28, n);
-        }
-        match entry_at(s, at) {
-            Found::Fault(k) => {
-                return Answer::Refused(k, n);
-            }
-            Found::At(e, next) => {
-                let k = st.fault(e);
-                if k != 0 {
-                    return Answer::Refused(k, n);
-                }
-                st = st.after(e);
-                at = next;
-            }
-        }
-        n += 1;
+    let mut head = ReadingHead { bytes: s, place: 0 };
+    let mut progress = begun();
+    while goes_on(progress, head.place, s.len()) {
+        let found = head.take();
+        progress = after(progress, found);
     }
-    Answer::All(n)
+    answer_of(progress)
 }
