@@ -54,7 +54,7 @@ use Rattle.record.specs.declared.Answer.{Answer}
 use Rattle.reader.specs.declared.ReadingHead.{ReadingHead}
 use Rattle.reader.specs.declared.Progress.{Progress}
 use Rattle.reader.specs.Head.{placeAfter}
-use Rattle.reader.specs.Survey as Survey
+use Rattle.reader.specs.laws.Survey as Survey
 use Rattle.reader.specs.laws.Survey.{goesOn, afterFound, answerOf}
 use Rattle.reader.specs.laws.SurveySteps.{Surveying, turnsLeft, Turned, survey-begins, survey-turns, survey-ends}
 use Rattle.record.proofs.Found as F
