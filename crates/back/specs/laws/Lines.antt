@@ -56,7 +56,7 @@ unfolding recordOf appliedOf
 applied-adds r e p h = note-adds (p .note) (r .count) (r .lines) h
 
 -- the line that stands at place n is the next entry
-entry-next : (n : ℕ) (lines : List Line) (d : Line) → n < length lines → entriesOf (n + 1) lines ≡ entriesOf n lines ++ (getD lines n d .entry ∷ [])
+pub entry-next : (n : ℕ) (lines : List Line) (d : Line) → n < length lines → entriesOf (n + 1) lines ≡ entriesOf n lines ++ (getD lines n d .entry ∷ [])
 entry-next n lines d h =
     let s : n + 1 ≡ suc n = omega arith in
     ap (λ (k : ℕ). entriesOf k lines) s ∙ ap (map (λ (l : Line). l .entry)) (take-suc lines n d h) ∙ map-next (take n lines) (getD lines n d)
@@ -80,12 +80,12 @@ count-long r h = n-long (r .count) (r .lines) h
 
 -- ---- their rows
 
-rows-append : (es fs : List Entry) → rowsOf (es ++ fs) ≡ rowsOf es ++ rowsOf fs
+pub rows-append : (es fs : List Entry) → rowsOf (es ++ fs) ≡ rowsOf es ++ rowsOf fs
 unfolding allOf
 rows-append [] fs = refl
 rows-append (e ∷ es) fs = ap (λ (l : List ℕ). rowOf e ++ l) (rows-append es fs) ∙ sym (append-assoc (rowOf e) (rowsOf es) (rowsOf fs))
 
-rows-one : (e : Entry) → rowsOf (e ∷ []) ≡ rowOf e
+pub rows-one : (e : Entry) → rowsOf (e ∷ []) ≡ rowOf e
 unfolding allOf
 rows-one e = append-nil (rowOf e)
 

@@ -127,31 +127,31 @@ module _ (r : Rack) (ws : List ℕ) (s : soundOf r ≡ true) (l : length ws ≡ 
   before-pairs j h =
       before-slots j (omega arith) ∙ parts-below pairPlace pairs pairs-apart (16 * r .sizes .replicas) (partiesPut r (headOf r ws)) j (omega arith)
 
-  head-stands : Stands (writtenOf r ws) 0 head
+  pub head-stands : Stands (writtenOf r ws) 0 head
   unfolding partiesPut headOf
   head-stands o h =
       before-pairs (0 + o) (omega arith) ∙ parts-below partyPlace parties parties-apart (r .sizes .clients) (headOf r ws) (0 + o) (omega arith)
       ∙ sets-stand head ws 0 (omega (arith, l)) o h
 
-  party-stands : (i : ℕ) → i < r .sizes .clients → Stands (writtenOf r ws) (partyPlace i) (parties i)
+  pub party-stands : (i : ℕ) → i < r .sizes .clients → Stands (writtenOf r ws) (partyPlace i) (parties i)
   unfolding partiesPut
   party-stands i h o k =
       before-pairs (partyPlace i + o) (omega (arith, party-long (partyAt r i), sound .sizes .clients))
       ∙ parts-stand partyPlace parties parties-apart (r .sizes .clients) i (headOf r ws) h (omega (arith, long-0, sound .sizes .clients)) o k
 
-  pair-stands : (i : ℕ) → i < 16 * r .sizes .replicas → Stands (writtenOf r ws) (pairPlace i) (pairs i)
+  pub pair-stands : (i : ℕ) → i < 16 * r .sizes .replicas → Stands (writtenOf r ws) (pairPlace i) (pairs i)
   unfolding pairsPut
   pair-stands i h o k =
       before-slots (pairPlace i + o) (omega (arith, written-long (r .sizes .cells) i (getD (r .pairs) i freshPair), sound .sizes .replicas))
       ∙ parts-stand pairPlace pairs pairs-apart (16 * r .sizes .replicas) i (partiesPut r (headOf r ws)) h (omega (arith, long-1, sound .sizes .replicas)) o k
 
-  slot-stands : (i : ℕ) → i < 256 → Stands (writtenOf r ws) (slotPlace i) (slots i)
+  pub slot-stands : (i : ℕ) → i < 256 → Stands (writtenOf r ws) (slotPlace i) (slots i)
   unfolding wirePut
   slot-stands i h o k =
       before-rows (slotPlace i + o) (omega (arith, slot-long (heldAt r i)))
       ∙ parts-stand slotPlace slots slots-apart 256 i (pairsPut r (partiesPut r (headOf r ws))) h (omega (arith, long-2)) o k
 
-  row-stands : (i : ℕ) → i < r .count → Stands (writtenOf r ws) (entryPlace i) (rows i)
+  pub row-stands : (i : ℕ) → i < r .count → Stands (writtenOf r ws) (entryPlace i) (rows i)
   unfolding writtenOf recordPut
   row-stands i h = parts-stand entryPlace rows rows-apart (r .count) i (wirePut r (pairsPut r (partiesPut r (headOf r ws)))) h (omega (arith, long-3, sound .entries))
 

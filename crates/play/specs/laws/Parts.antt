@@ -37,7 +37,7 @@ from-front (suc n) done r (k ∷ a ∷ b ∷ v ∷ xs) ys zs h = go (decided r (
     go (No x) ih = refl
     go (Go p) ih = ih (appliedOf r (eventOf k a b v) p)
 
-run-front : (n : ℕ) (r : Rack) (xs ys zs : List ℕ) → soundOf r ≡ true → 4 * n ≤ length xs → runOf r n (xs ++ ys) ≡ runOf r n (xs ++ zs)
+pub run-front : (n : ℕ) (r : Rack) (xs ys zs : List ℕ) → soundOf r ≡ true → 4 * n ≤ length xs → runOf r n (xs ++ ys) ≡ runOf r n (xs ++ zs)
 run-front n r xs ys zs s h = sound-from r n (xs ++ ys) s ∙ from-front n 0 r xs ys zs h ∙ sym (sound-from r n (xs ++ zs) s)
 
 -- with no allowance, or no words, nothing is done

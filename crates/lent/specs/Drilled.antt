@@ -1,0 +1,23 @@
+-- What holds of the text that the program `drill` writes for a script without a fault.
+use mathlib.Core.Path.{_≡_}
+use mathlib.Core.List.{List, _++_}
+use Prim.Native.Nat.{ℕ}
+use Rattle.record.specs.Record.{entries, bytesOf, recordOf as readOf}
+use Rattle.law.specs.Operation.{operations}
+use Rattle.law.specs.Order.{Lawful}
+use Rattle.rack.specs.declared.Ran.{Ran}
+use Rattle.rack.specs.Places.{recordOf}
+use Rattle.text.specs.Text.{hexText, lineFeed}
+use Rattle.lines.specs.Words.{recordStart}
+use Rattle.lines.specs.Lines.{ranText}
+use Rattle.back.specs.Reading.{ReadsBack}
+
+-- The text is the lines of the run q, and its last line gives the bytes of q's record in hex. These bytes, read, are that record, which is lawful; and
+-- writer, reader and judge take it.
+pub record Drilled (q : Ran) (text : List ℕ) : Type 0 where
+  pub lines : text ≡ ranText q
+  pub before : List ℕ
+  pub last : text ≡ before ++ (recordStart ++ (hexText (bytesOf (recordOf (q .rack))) ++ lineFeed))
+  pub reads : readOf (bytesOf (recordOf (q .rack))) ≡ entries (recordOf (q .rack))
+  pub lawful : Lawful (operations (recordOf (q .rack)))
+  pub back : ReadsBack (recordOf (q .rack))

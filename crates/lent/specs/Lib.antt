@@ -1,0 +1,9 @@
+-- What has to be believed: definitions.
+pub mod Plain
+pub mod Called
+pub mod Handed
+pub mod Together
+pub mod Drilled
+pub mod laws
+-- What is proved of them.
+pub mod laws

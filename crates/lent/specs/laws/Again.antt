@@ -1,0 +1,108 @@
+-- The words that a call leaves are read as the rack that it left.
+use Prim.Native.Nat.{ℕ, zero, suc}
+use mathlib.Core.Path.{_≡_, refl, ap, sym}
+use mathlib.Core.Bool.{Bool, true, false, cond}
+use mathlib.Core.List.{List}
+use lib.Dec.{eqb, ltb}
+use lib.ListN.{length, replicate, length-replicate}
+use borrow.Author.Tests.{eq-eqb, eqb-true, eqb-false}
+use Rattle.rack.specs.declared.Rack.{Rack}
+use Rattle.rack.specs.declared.Ran.{Ran}
+use Rattle.rack.specs.Sound.{sizesFit, soundOf}
+use Rattle.rack.specs.laws.SoundLaws.{sized}
+use Rattle.rack.specs.laws.Fresh.{fresh-sound}
+use Rattle.rack.specs.Run.{freshRack, madeOf, ranOf, runFrom, runOf}
+use Rattle.runs.specs.laws.Steps.{run-steps}
+use Rattle.runs.specs.laws.Parts.{run-stays}
+use Rattle.layout.specs.Layout.{wordCount, word}
+use Rattle.layout.specs.Reading.{rackOf}
+use Rattle.layout.specs.Writing.{writtenOf}
+use Rattle.layout.specs.Calls.{makes, madeOutcome, leaves, runOutcome}
+use Rattle.lent.specs.Plain.{plainRack, Plain}
+use Rattle.lent.specs.laws.Whole.{whole, whole-plain}
+use Rattle.lent.specs.laws.Stays.{Writable, small-of, run-writable, run-plain}
+use Rattle.lent.specs.laws.Read.{read-writable, fresh-writable, made-fresh, fresh-plain}
+
+-- ---- making
+
+zeros : (n j : ℕ) → word (replicate n 0) j ≡ 0
+zeros zero j = refl
+zeros (suc n) zero = refl
+zeros (suc n) (suc j) = zeros n j
+
+fresh-again : (replicas clients cells : ℕ) → sizesFit (record { replicas = replicas; clients = clients; cells = cells }) ≡ true
+    → (ws : List ℕ) → ((j : ℕ) → word ws j ≡ 0) → length ws ≡ wordCount → rackOf (writtenOf (freshRack replicas clients cells) ws) ≡ freshRack replicas clients cells
+fresh-again replicas clients cells e ws h l =
+    let r : Rack = freshRack replicas clients cells in
+    let s : soundOf r ≡ true = fresh-sound replicas clients cells e in
+    let w : Writable ws r = fresh-writable ws h replicas clients cells (sized (record { replicas = replicas; clients = clients; cells = cells }) e .replicas) in
+    whole r ws s (small-of ws r s w) l (w .beyond) (fresh-plain replicas clients cells)
+
+-- the rack that was made stands in the words, also beside a refusal
+pub made-reads-again : (replicas clients cells : ℕ) (ws : List ℕ) → length ws ≡ wordCount
+    → rackOf (madeOutcome replicas clients cells ws .lent) ≡ madeOf replicas clients cells .rack
+unfolding madeOutcome makes sizesFit
+made-reads-again replicas clients cells ws h =
+    rw (eq-eqb (length ws) wordCount h)
+    (made-fresh (λ (r : Rack). rackOf (writtenOf r (replicate wordCount 0)) ≡ r) replicas clients cells
+    (λ e. fresh-again replicas clients cells e (replicate wordCount 0) (zeros wordCount) (length-replicate {A = ℕ} wordCount 0))
+    (fresh-again 1 1 1 refl (replicate wordCount 0) (zeros wordCount) (length-replicate {A = ℕ} wordCount 0)))
+
+-- ---- running
+
+-- no event was done: the rack is the one that was there
+pub none-done : (r : Rack) (n : ℕ) (es : List ℕ) → runOf r n es .done ≡ 0 → runOf r n es .rack ≡ r
+unfolding runOf
+none-done r n es h = sym (ap (λ (q : Ran). q .rack) (rw h at (run-steps r n es .same)))
+
+-- an event is done on a sound rack only
+pub some-done : (r : Rack) (n : ℕ) (es : List ℕ) → (runOf r n es .done ≡ 0 → ⊥) → soundOf r ≡ true
+unfolding runOf
+some-done r n es h = go (eqb n 0) (ltb (length es) 4) (soundOf r) h
+  where
+    go : (a b c : Bool) → (cond a (ranOf 0 0 r) (cond b (ranOf 0 0 r) (cond c (runFrom 0 r n es) (ranOf 0 2 r))) .done ≡ 0 → ⊥) → c ≡ true
+    go true b c k = absurd (k refl)
+    go false true c k = absurd (k refl)
+    go false false true k = refl
+    go false false false k = absurd (k refl)
+
+module _ (ws : List ℕ) (n : ℕ) (es : List ℕ) (l : length ws ≡ wordCount) where
+  -- the rack that the run leaves
+  abbrev after : Rack
+  after = runOf (rackOf ws) n es .rack
+
+  pub after-sound : soundOf (rackOf ws) ≡ true → soundOf after ≡ true
+  after-sound s = run-stays (rackOf ws) n es s
+
+  pub after-writable : soundOf (rackOf ws) ≡ true → Writable ws after
+  after-writable s = run-writable ws (rackOf ws) n es s (read-writable ws s)
+
+  left-again : Plain (rackOf ws) → rackOf (runOutcome ws n es .lent) ≡ runOf (rackOf ws) n es .rack
+  unfolding runOutcome leaves
+  left-again p = rw (eq-eqb (length ws) wordCount l) (go (eqb (runOf (rackOf ws) n es .done) 0) refl)
+    where
+      go : (t : Bool) → eqb (runOf (rackOf ws) n es .done) 0 ≡ t → rackOf (cond t ws (writtenOf after ws)) ≡ after
+      go true e = sym (none-done (rackOf ws) n es (eqb-true _ 0 e))
+      go false e =
+          let s = some-done (rackOf ws) n es (eqb-false _ 0 e) in
+          let w = after-writable s in
+          whole after ws (after-sound s) (small-of ws after (after-sound s) w) l (w .beyond) (run-plain ws (rackOf ws) n es s (read-writable ws s) p)
+
+  left-plain : plainRack (rackOf (runOutcome ws n es .lent)) ≡ plainRack (runOf (rackOf ws) n es .rack)
+  unfolding runOutcome leaves
+  left-plain = rw (eq-eqb (length ws) wordCount l) (go (eqb (runOf (rackOf ws) n es .done) 0) refl)
+    where
+      go : (t : Bool) → eqb (runOf (rackOf ws) n es .done) 0 ≡ t → plainRack (rackOf (cond t ws (writtenOf after ws))) ≡ plainRack after
+      go true e = ap plainRack (sym (none-done (rackOf ws) n es (eqb-true _ 0 e)))
+      go false e =
+          let s = some-done (rackOf ws) n es (eqb-false _ 0 e) in
+          let w = after-writable s in
+          whole-plain after ws (after-sound s) (small-of ws after (after-sound s) w) l (w .beyond)
+
+-- The words that a run leaves are read as the rack that it left, whole, if at first no client that was told nothing held anything.
+pub run-reads-again : (ws : List ℕ) (n : ℕ) (es : List ℕ) → length ws ≡ wordCount → Plain (rackOf ws) → rackOf (runOutcome ws n es .lent) ≡ runOf (rackOf ws) n es .rack
+run-reads-again ws n es l p = left-again ws n es l p
+
+-- Of any words it is so but for what such clients hold.
+pub run-reads-plain : (ws : List ℕ) (n : ℕ) (es : List ℕ) → length ws ≡ wordCount → plainRack (rackOf (runOutcome ws n es .lent)) ≡ plainRack (runOf (rackOf ws) n es .rack)
+run-reads-plain ws n es l = left-plain ws n es l
