@@ -41,7 +41,7 @@ use Rattle.rack.specs.declared.Sizes.{Sizes}
 use Rattle.rack.specs.declared.Rack.{Rack}
 use Rattle.rack.specs.declared.Ran.{Ran}
 use Rattle.rack.specs.Places.{idle, partyAt, heldAt, roomOf, sentOf}
-use Rattle.rack.specs.Sound.{pairFits, workFits, owes, owedBy, owedBelow, owed, soundOf}
+use Rattle.rack.specs.Sound.{pairFits, workFits, owes, owedBy, owedIn, owed, soundOf}
 use Rattle.rack.specs.laws.SoundLaws.{Sound, sound-of, of-sound}
 use Rattle.rack.specs.Run.{eventOf, inRack, slotOf, placeIn, noted, freed, checked, decided, addressed, cleared, recorded, entriesIn, appliedOf, ranOf, turn, runFrom, runOf}
 use Rattle.runs.specs.laws.Steps.{sound-from}
@@ -146,8 +146,8 @@ owed-plain p = go (p .work)
 party-plain : (ps : List Party) (i : ℕ) → getD (map plainParty ps) i idle ≡ plainParty (getD ps i idle)
 party-plain ps i = List·getD-map plainParty ps i idle
 
-below-plain : (n : ℕ) (r : Rack) → owedBelow n (plainRack r) ≡ owedBelow n r
-unfolding owedBelow plainRack
+below-plain : (n : ℕ) (r : Rack) → owedIn n (plainRack r .parties) ≡ owedIn n (r .parties)
+unfolding owedIn plainRack
 below-plain zero r = refl
 below-plain (suc n) r = ap₂ (λ (a b : ℕ). a + b) (below-plain n r) (ap owedBy (party-plain (r .parties) n) ∙ owed-plain (partyAt r n))
 
