@@ -22,14 +22,13 @@ use Rattle.method.specs.declared.Plan.{Plan}
 use Rattle.method.specs.declared.Outcome.the-variants.{Go}
 use Rattle.rack.specs.Places.{blank, idle, partyAt, recordOf}
 use Rattle.rack.specs.Sound.{owes, soundOf}
-use Rattle.rack.specs.Run.{decided, recorded, entriesIn, appliedOf, freshRack, madeOf, runOf}
+use Rattle.rack.specs.Run.{decided, recorded, entriesIn, appliedOf, freshRack}
 use Rattle.rack.specs.laws.SoundLaws.{sound-of}
 use Rattle.rack.specs.laws.Fresh.{made-sound}
 use Rattle.rack.specs.laws.Decided.{lookedClient, lookedParty, decided-fits}
 use Rattle.runs.specs.laws.Stays.{stays, sound-stays}
 use Rattle.runs.specs.laws.Loop.{applied-parties}
-use Rattle.counts.specs.Counts.{countOf, requestsBy, resentBy, costIn, costOf, endsBy, endsOf}
-use Rattle.counts.specs.Counts.{madeRack, rackAfter}
+use Rattle.counts.specs.Counts.{countOf, requestsBy, resentBy, costIn, costOf, endsBy, endsOf, madeRack, rackAfter}
 use Rattle.counts.specs.laws.Costing.{resent-none}
 use Rattle.counts.specs.laws.PlanCounts.{endsIn, PlanCounts, decided-counts}
 use Rattle.counts.specs.laws.Runs.{Adds, run-adds, made-fresh}

@@ -1,6 +1,6 @@
 -- Facts of a record's operations: of any entries, and of those without a fault.
 use mathlib.Core.Path.{_≡_, refl, sym, ap, _∙_}
-use mathlib.Core.Logic.{_≢_, _⊎_, inl, inr, ⊎-elim, _↔_}
+use mathlib.Core.Logic.{_≢_, _⊎_, inl, inr, ⊎-elim}
 use mathlib.Core.Bool.{Bool, true, false, cond}
 use mathlib.Core.List.{List, [], _∷_, _++_, map, List·Memᴰ·head as here, List·Memᴰ·not-nil as no-mem, List·Memᴰ·cases-cons as mem-cons, Memᴰ·cast as mem-cast}
 use mathlib.Core.List.{Memᴰ·append-left as mem-left, Memᴰ·append-right as mem-right, Memᴰ·map as mem-map, Memᴰ·of-map as mem-of-map}

@@ -13,7 +13,6 @@ use Rattle.rows.specs.Row.{rowOf}
 use Rattle.rows.specs.laws.RowLaws.{row-length}
 use Rattle.rack.specs.declared.Line.{Line}
 use Rattle.stamps.specs.declared.Pair.{Pair}
-use Rattle.method.specs.declared.Party.{Party}
 use Rattle.rack.specs.declared.Rack.{Rack}
 use Rattle.rack.specs.declared.Slot.{Slot}
 use Rattle.stamps.specs.Stamp.{freshPair}
@@ -26,7 +25,8 @@ use Rattle.layout.specs.Reading.{byteOf, pairIn, partyIn, slotIn, lineIn
 use Rattle.layout.specs.Writing.{pairWords, partyWords, slotWords, headOf, partiesPut, pairWritten, pairsPut, wirePut, entryIn, recordPut, writtenOf}
 use Rattle.layout.specs.laws.Firsts.{firsts-long, firsts-at}
 use Rattle.layout.specs.laws.PlaceLaws.{Stands, sets-stand, first-long, parts-below, parts-stand}
-use Rattle.layout.specs.laws.Trip.{entryFits, line-known, line-again, pair-long, pair-again, heldSmall, slot-long, slot-again, workSmall, plain, party-long, party-again}
+use Rattle.layout.specs.laws.Trip.{entryFits, line-known, line-again, pair-long, pair-again, heldSmall, slot-long, slot-again, workSmall, party-long, party-again}
+use Rattle.layout.specs.Plain.{plainParty}
 
 -- what the words can say again: fifteen bits of power, operation numbers and sets of 16 bits, names and ranks that a byte holds, and entries of clients
 -- below 8 and cells below 16
@@ -37,10 +37,6 @@ pub record Small (r : Rack) : Type 0 where
   pub ranks : (k x : ℕ) → k < r .sizes .replicas → x < r .sizes .cells → pairAt r k x .stamp .rank < 256
   pub slots : (i : ℕ) → i < 256 → heldSmall (heldAt r i)
   pub entries : (i : ℕ) → i < r .count → entryFits (entryIn (r .lines) i)
-
--- a client whose set of the ask phase is empty holds nothing
-abbrev pub plainParty : Party → Party
-plainParty p = record { stopped = p .stopped; op = p .op; work = plain (p .work) }
 
 -- the rack q has the parts of the rack r
 pub record Again (r q : Rack) : Type 0 where

@@ -30,6 +30,7 @@ use Rattle.layout.specs.Layout.{word}
 use Rattle.layout.specs.Reading.{byteOf, setOf, pairIn, goalOf, workOf, workIn, partyKnown, partyIn, bodyOf, messageKnown, fullIn, heldOf, entryKnown, lineKnown, lineIn}
 use Rattle.layout.specs.Writing.{pairWords, noPair, openWords, toldWords, workWords, flag, partyWords, bodyKind, bodyWords, slotWords}
 use Rattle.layout.specs.laws.PlaceLaws.{Stands}
+use Rattle.layout.specs.Plain.{plain}
 
 -- a word of a part
 at-of : (ws : List ℕ) (at n o : ℕ) (xs : List ℕ) → Stands ws at xs → length xs ≡ n → o < n → word ws (at + o) ≡ getD xs o 0
@@ -172,12 +173,6 @@ abbrev pub workSmall : Work → Type 0
 workSmall Idle = Unit {0}
 workSmall (Asking cell goal set held) = (cell .0 < 256) × ((set < 65536) × (held .stamp .rank < 256))
 workSmall (Keeping cell goal set held) = (cell .0 < 256) × ((set < 65536) × (held .stamp .rank < 256))
-
--- nothing is held while the set of the ask phase is empty
-abbrev pub plain : Work → Work
-plain Idle = Idle
-plain (Asking cell goal set held) = Asking cell goal set (cond (eqb set 0) freshPair held)
-plain (Keeping cell goal set held) = Keeping cell goal set held
 
 nothing-again : (ws : List ℕ) (at : ℕ) → Stands ws at noPair → pairIn ws at ≡ freshPair
 unfolding pairWords alternatingOf

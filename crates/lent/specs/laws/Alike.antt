@@ -39,15 +39,13 @@ use Rattle.method.specs.Plan.{resendIn, resendOf, stopOf, powered, offOf, onOf,
 use Rattle.method.specs.About.{clientOf}
 use Rattle.rack.specs.declared.Sizes.{Sizes}
 use Rattle.rack.specs.declared.Rack.{Rack}
-use Rattle.rack.specs.declared.Ran.{Ran}
 use Rattle.rack.specs.Places.{idle, partyAt, heldAt, roomOf, sentOf}
 use Rattle.rack.specs.Sound.{pairFits, workFits, owes, owedBy, owedIn, owed, soundOf}
 use Rattle.rack.specs.laws.SoundLaws.{Sound, sound-of, of-sound}
 use Rattle.rack.specs.Run.{eventOf, inRack, slotOf, placeIn, noted, freed, checked, decided, addressed, cleared, recorded, entriesIn, appliedOf, ranOf, turn, runFrom, runOf}
 use Rattle.runs.specs.laws.Steps.{sound-from}
-use Rattle.layout.specs.laws.Trip.{plain}
-use Rattle.layout.specs.laws.Again.{plainParty}
-use Rattle.lent.specs.Plain.{plainRack}
+use Rattle.layout.specs.Plain.{plain, plainParty}
+use Rattle.lent.specs.Plain.{plainRack, plainRan}
 use Rattle.lent.specs.laws.Whole.{plain-twice}
 
 -- ---- plans
@@ -273,10 +271,6 @@ applied-alike r q e p o h g =
     sym (applied-plain r e p) ∙ ap₂ (λ (x : Rack) (y : Plan). plainRack (appliedOf x e y)) h g ∙ applied-plain q e o
 
 -- ---- a run
-
--- what a run gives, and what clients hold that were told something
-abbrev pub plainRan : Ran → Ran
-plainRan q = ranOf (q .done) (q .refusal) (plainRack (q .rack))
 
 from-alike : (done : ℕ) (r q : Rack) (n : ℕ) (es : List ℕ) → plainRack r ≡ plainRack q → plainRan (runFrom done r n es) ≡ plainRan (runFrom done q n es)
 unfolding runFrom turn

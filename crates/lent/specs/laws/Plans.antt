@@ -39,7 +39,8 @@ use Rattle.rack.specs.declared.Sizes.{Sizes}
 use Rattle.rack.specs.Sound.{pairFits, bodyFits, heldFits}
 use Rattle.rack.specs.Run.{inRack}
 use Rattle.rack.specs.laws.SoundLaws.{Sized, Named, named}
-use Rattle.layout.specs.laws.Trip.{entryFits, plain}
+use Rattle.layout.specs.laws.Trip.{entryFits}
+use Rattle.layout.specs.Plain.{plain}
 
 -- ---- what words can say
 

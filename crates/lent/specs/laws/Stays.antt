@@ -43,8 +43,9 @@ use Rattle.runs.specs.laws.Stays.{set-either, stays, sound-stays}
 use Rattle.runs.specs.laws.Steps.{sound-from}
 use Rattle.back.specs.laws.Agrees.{decided-plan}
 use Rattle.layout.specs.Writing.{entryIn}
-use Rattle.layout.specs.laws.Trip.{entryFits, bodySmall, heldSmall, workSmall, plain}
-use Rattle.layout.specs.laws.Again.{Small, plainParty}
+use Rattle.layout.specs.laws.Trip.{entryFits, bodySmall, heldSmall, workSmall}
+use Rattle.layout.specs.Plain.{plain, plainParty}
+use Rattle.layout.specs.laws.Again.{Small}
 use Rattle.lent.specs.Plain.{Plain}
 use Rattle.lent.specs.laws.Whole.{Beyond}
 use Rattle.lent.specs.laws.Plans.{RankSmall, HeldOp, NoteFits, PlanStays, OutcomeStays, rank-below, plan-stays}

@@ -20,13 +20,13 @@ use Rattle.layout.specs.Layout.{wordCount}
 use Rattle.layout.specs.Reading.{rackOf}
 use Rattle.layout.specs.Writing.{writtenOf}
 use Rattle.layout.specs.Calls.{Outcome, answerOf, unfit, leaves, runOutcome}
-use Rattle.lent.specs.Plain.{plainRack}
+use Rattle.lent.specs.Plain.{plainRack, plainRan}
 use Rattle.lent.specs.Together.{together}
 use Rattle.lent.specs.laws.Whole.{whole-plain}
 use Rattle.lent.specs.laws.Stays.{small-of, run-keeps}
 use Rattle.lent.specs.laws.Again.{none-done, some-done, after-sound, after-writable}
 use Rattle.lent.specs.laws.Calls.{written-long}
-use Rattle.lent.specs.laws.Alike.{plainRan, run-alike}
+use Rattle.lent.specs.laws.Alike.{run-alike}
 use Rattle.lent.specs.laws.Over.{written-alike, written-over}
 
 -- ---- sizes stay, and entries too

@@ -24,8 +24,8 @@ use Rattle.layout.specs.Layout.{wordCount, partyPlace, pairPlace, slotPlace, en
 use Rattle.layout.specs.Reading.{pairIn, workIn, partyIn, slotIn, lineIn, linesIn, countOf, rackOf}
 use Rattle.layout.specs.Writing.{writtenOf}
 use Rattle.layout.specs.laws.Firsts.{firsts-long, firsts-at}
-use Rattle.layout.specs.laws.Trip.{plain}
-use Rattle.layout.specs.laws.Again.{Small, Again, plainParty, head-stands, written-again}
+use Rattle.layout.specs.Plain.{plain, plainParty}
+use Rattle.layout.specs.laws.Again.{Small, Again, head-stands, written-again}
 use Rattle.lent.specs.Plain.{plainRack, Plain}
 use Rattle.lent.specs.laws.Away.{away-stays}
 

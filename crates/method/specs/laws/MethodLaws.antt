@@ -27,7 +27,7 @@ use Rattle.method.specs.declared.Outcome.the-variants.{No, Go}
 use Rattle.method.specs.Plan.{usedUp, started, startIn, startOf, askOf, keepOf, current, keepsOf, written, phaseEnds, holds, tellCounts, tellIn, tellOf, lastEntry}
 use Rattle.method.specs.Plan.{keptCounts, keptIn, keptOf, deliverIn, deliverOf, copyOf, resendIn, resendOf, stopOf, powered, offOf, onOf, ofSlot, planOf}
 use Rattle.method.specs.About.{clientIn, clientOf}
-use Rattle.method.specs.laws.Tests.{and-right, either, either}
+use Rattle.method.specs.laws.Tests.{and-right, either}
 use Rattle.method.specs.Method.{Raised, Holds, Chosen, firstEntry, endEntry, Heard, Counted, Does}
 use Rattle.method.specs.Method.Raised.{taken, left}
 use Rattle.method.specs.Method.Holds.{first, later}

@@ -1,5 +1,5 @@
 -- Whole records in rows and in lent memory: what was written is read, what is read is written back byte for byte, and a refusal leaves all as it was.
-use Prim.Native.Nat.{ℕ, _+_, _*_, _^_}
+use Prim.Native.Nat.{ℕ, _+_, _*_}
 use mathlib.Core.List.{List, _++_}
 use mathlib.Core.Path.{_≡_, refl, ap, _∙_, sym}
 use mathlib.Core.Bool.{Bool, true, false}
@@ -14,12 +14,12 @@ use Rattle.record.specs.declared.Answer.the-variants.{All, Refused}
 use Rattle.record.specs.Record.{entryLimit, fresh, Held, entries, fault, recordOf, bytesOf}
 use Rattle.record.specs.Legal.{Legal}
 use Rattle.number.specs.Below.{Bytes, Words}
-use Rattle.record.specs.laws.Trip.{held-legal, Source, holds, from-length, from-none, all-below, reading-legal, read-of-write, write-of-read}
+use Rattle.record.specs.laws.Trip.{held-legal, Source, holds, from-length, from-none, reading-legal, read-of-write, write-of-read}
 use Rattle.rows.specs.Row.{rowOf, rowAt}
 use Rattle.rows.specs.Rows.{rowsHeld, rowsOf, Outcome, stored, readInto, writeInto, readOutcome, writeOutcome}
 use Rattle.rows.specs.laws.Storing.{stored-fits, stored-short}
 use Rattle.rows.specs.laws.RowLaws.{row-length, rows-length}
-use Rattle.rows.specs.laws.RowTrip.{reads-row, row-range, row-words}
+use Rattle.rows.specs.laws.RowTrip.{reads-row, row-range}
 
 -- ---- what rows hold
 

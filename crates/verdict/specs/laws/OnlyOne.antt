@@ -1,16 +1,16 @@
 -- Only one verdict is right, and each says exactly what it means.
-use Prim.Native.Nat.{ℕ, _+_, _<_}
 use mathlib.Core.Path.{_≡_, refl, ap, subst}
+use mathlib.Core.List.{List, [], _∷_}
+use Rattle.record.specs.declared.Entry.{Entry}
+use Rattle.record.specs.Record.{Held, entries, fault, recordOf}
+use Rattle.record.specs.Legal.{Legal}
+use Prim.Native.Nat.{ℕ, _+_, _<_}
 use mathlib.Core.Logic.{_↔_}
 use mathlib.Core.Bool.{Bool, true, false, cond}
-use mathlib.Core.List.{List, [], _∷_}
 use native.Mathlib.Omega.{arith}
 use native.Mathlib.Decide.{decLt}
 use lib.ListN.{getD}
 use Rattle.record.specs.declared.Cell.{Cell}
-use Rattle.record.specs.declared.Entry.{Entry}
-use Rattle.record.specs.Record.{Held, entries, fault, recordOf}
-use Rattle.record.specs.Legal.{Legal}
 use Rattle.law.specs.Operation.{operations}
 use Rattle.law.specs.Order.{Lawful}
 use Rattle.law.specs.laws.Whole.{record-locality, record-locality-16}
@@ -19,7 +19,11 @@ use Rattle.verdict.specs.declared.Verdict.the-variants.{Lawful as saysLa
 use Rattle.verdict.specs.Verdict.{repeats, distinctFrom, distinct, takenFor, Lowest, Judges}
 use Rattle.verdict.specs.Answers.{caseOf, refusalIn, entryIn, cellIn}
 use Rattle.record.specs.laws.Trip.{reading-legal}
-use Rattle.verdict.specs.Same.{LegalHeld, SameVerdict}
+use Rattle.verdict.specs.Same.{SameVerdict}
+
+-- the entries that are held have no fault
+abbrev pub LegalHeld : Held → Type 0
+LegalHeld h = (es : List Entry) → h ≡ entries es → Legal es
 
 -- ---- a record is one list of entries, and no refusal
 
