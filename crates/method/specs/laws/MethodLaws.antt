@@ -27,7 +27,7 @@ use Rattle.method.specs.declared.Outcome.the-variants.{No, Go}
 use Rattle.method.specs.Plan.{usedUp, started, startIn, startOf, askOf, keepOf, current, keepsOf, written, phaseEnds, holds, tellCounts, tellIn, tellOf, lastEntry}
 use Rattle.method.specs.Plan.{keptCounts, keptIn, keptOf, deliverIn, deliverOf, copyOf, resendIn, resendOf, stopOf, powered, offOf, onOf, ofSlot, planOf}
 use Rattle.method.specs.About.{clientIn, clientOf}
-use Rattle.method.specs.laws.Tests.{and-right}
+use Rattle.method.specs.laws.Tests.{and-right, either}
 use Rattle.method.specs.Method.{Raised, Holds, Chosen, firstEntry, endEntry, Heard, Counted, Does}
 use Rattle.method.specs.Method.Raised.{taken, left}
 use Rattle.method.specs.Method.Holds.{first, later}
@@ -58,11 +58,6 @@ holds-is set held told = go (eqb set 0) refl
 abbrev DoesIf : Sight → ℕ → Held → Outcome → Type 0
 DoesIf s client held (No k) = Unit {0}
 DoesIf s client held (Go p) = Does s client held p
-
--- a branch: both ways
-either : (P : Outcome → Type 0) (t : Bool) (a b : Outcome) → (t ≡ true → P a) → (t ≡ false → P b) → P (cond t a b)
-either P true a b p q = p refl
-either P false a b p q = q refl
 
 module _ (s : Sight) where
   -- ---- a start
