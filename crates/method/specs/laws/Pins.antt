@@ -1,6 +1,6 @@
 -- Errors that look healthy, and what refuses each: laws of every sight, message and set, proved of the definitions alone. The paper: "Floating pins".
 use Prim.Native.Nat.{ℕ, _+_, _*_, _≤_, _<_}
-use mathlib.Core.Path.{_≡_, refl, sym, _∙_}
+use mathlib.Core.Path.{_≡_, refl, ap, sym}
 use mathlib.Core.Logic.{_≢_, _⊎_, inl, inr}
 use mathlib.Core.Bool.{Bool, true, false, cond, not, _&&_, _||_}
 use native.Mathlib.Omega.{arith}
@@ -9,7 +9,7 @@ use lib.IntN.{ℤ}
 use borrow.Author.Tests.{lt-ltb, le-ltb, eq-eqb, ne-eqb, ltb-true, ltb-false, eqb-true, eqb-false}
 use Rattle.record.specs.declared.Client.{Client}
 use Rattle.record.specs.declared.Cell.{Cell}
-use Rattle.quorum.specs.Sets.{setBits, hasReplica, withReplica, countOf, majority, asksEnough, everyReplica}
+use Rattle.quorum.specs.Sets.{setBits, hasReplica, withReplica, countOf, majority, asksEnough, keepsEnough, everyReplica}
 use Rattle.quorum.specs.laws.SetLaws.{with-has}
 use Rattle.stamps.specs.declared.Stamp.{Stamp}
 use Rattle.stamps.specs.declared.Pair.{Pair}
@@ -157,3 +157,153 @@ holds-greatest goal set held told =
     (λ e. either (Greatest goal set held told) (stampLess (held .stamp) (told .stamp)) told held
       (λ l. record { now = not-below-itself (told .stamp); before = λ n. not-both-below (held .stamp) (told .stamp) l; whole = λ r. inl refl })
       (λ l. record { now = l; before = λ n. not-below-itself (held .stamp); whole = λ r. inr refl }))
+
+-- the pair of a write is above what was held
+written-greatest : (client : Client) (v : ℤ) (set : ℕ) (held told q : Pair) → Greatest (Write v) set held told q
+    → Greatest (Write v) set held told (written client v q)
+written-greatest client v set held told q g =
+    record {
+      now = next-not-below (q .stamp) (told .stamp) (client .0) (g .now);
+      before = λ n. next-not-below (q .stamp) (held .stamp) (client .0) (g .before n);
+      whole = λ r. absurd (let z : _≡_ {A = ℕ} 0 1 = cc in omega arith);
+    }
+
+-- after a tell that counts the client holds the greatest pair, not the replica's own nor the last one told: no stamp told so far is above the one held
+pub greatest-is-held : (s : Sight) (m : Message) (t : Counting s m) (slot : ℕ)
+    → IfDone (planOf s (Full m) (Deliver slot)) (λ (p : Plan). Greatest (t .goal) (t .set) (t .held) (t .told) (heldBy (p .party .work)))
+unfolding tellCounts phaseEnds keepsOf
+greatest-is-held s m t slot =
+    rw (tell-counts s m t slot)
+    (either (Holding (t .goal)) (asksEnough (s .replicas) (tellers t)) _ _ (λ e. ends (t .goal)) (λ e. holds-greatest (t .goal) (t .set) (t .held) (t .told)))
+  where
+    Holding : Goal → Outcome → Type 0
+    Holding goal o = IfDone o (λ (p : Plan). Greatest goal (t .set) (t .held) (t .told) (heldBy (p .party .work)))
+
+    q : Pair
+    q = holds (t .set) (t .held) (t .told)
+
+    ends : (goal : Goal) → Holding goal (phaseEnds goal s m (t .cell) q)
+    ends Read = holds-greatest Read (t .set) (t .held) (t .told)
+    ends (Write v) =
+        either (Holding (Write v)) (eqb (q .stamp .number) 4294967295) _ _ (λ e. tt)
+        (λ e. written-greatest (m .client) v (t .set) (t .held) (t .told) q (holds-greatest (Write v) (t .set) (t .held) (t .told)))
+
+-- ---- one more answer of the same replica
+
+-- what a client is at when a kept of replica k is used up whatever its operation number
+abbrev KeptSpent : ℕ → Work → Type 0
+KeptSpent k Idle = Unit {0}
+KeptSpent k (Asking cell goal set held) = Unit {0}
+KeptSpent k (Keeping cell goal set held) = hasReplica set k ≡ true
+
+-- the same of a tell
+abbrev TellSpent : ℕ → Work → Type 0
+TellSpent k Idle = Unit {0}
+TellSpent k (Asking cell goal set held) = hasReplica set k ≡ true
+TellSpent k (Keeping cell goal set held) = Unit {0}
+
+kept-used : (s : Sight) (m : Message) → KeptSpent (m .replica .0) (s .party .work) → keptOf s m ≡ usedUp s m
+unfolding keptOf keptIn
+kept-used s m k = either (λ (o : Outcome). o ≡ usedUp s m) (current (s .party) m) _ _ (λ e. go (s .party .work) k) (λ e. refl)
+  where
+    go : (w : Work) → KeptSpent (m .replica .0) w → keptIn w s m ≡ usedUp s m
+    go Idle u = refl
+    go (Asking cell goal set held) u = refl
+    go (Keeping cell goal set held) u = rw u
+
+tell-used : (s : Sight) (m : Message) (q : Pair) → TellSpent (m .replica .0) (s .party .work) → tellOf s m q ≡ usedUp s m
+unfolding tellOf tellIn
+tell-used s m q k = either (λ (o : Outcome). o ≡ usedUp s m) (current (s .party) m) _ _ (λ e. go (s .party .work) k) (λ e. refl)
+  where
+    go : (w : Work) → TellSpent (m .replica .0) w → tellIn w s m q ≡ usedUp s m
+    go Idle u = refl
+    go (Asking cell goal set held) u = rw u
+    go (Keeping cell goal set held) u = refl
+
+-- a kept that is for the client's operation is spent once it is delivered
+kept-spent : (s : Sight) (m : Message) → m .replica .0 < setBits → current (s .party) m ≡ true
+    → IfDone (keptOf s m) (λ (p : Plan). KeptSpent (m .replica .0) (p .party .work))
+unfolding keptOf keptIn keptCounts
+kept-spent s m h c = rw c (go (s .party .work) refl)
+  where
+    Spent : Outcome → Type 0
+    Spent o = IfDone o (λ (p : Plan). KeptSpent (m .replica .0) (p .party .work))
+
+    go : (w : Work) → s .party .work ≡ w → Spent (keptIn w s m)
+    go Idle e = rw e tt
+    go (Asking cell goal set held) e = rw e tt
+    go (Keeping cell goal set held) e =
+        either Spent (hasReplica set (m .replica .0)) _ _ (λ u. rw e u)
+        (λ u. either Spent (keepsEnough (s .replicas) (withReplica set (m .replica .0))) _ _ (λ z. tt) (λ z. with-has set (m .replica .0) h))
+
+-- a tell that is for the client's operation is spent once it is delivered
+tell-spent : (s : Sight) (m : Message) (q : Pair) → m .replica .0 < setBits → current (s .party) m ≡ true
+    → IfDone (tellOf s m q) (λ (p : Plan). TellSpent (m .replica .0) (p .party .work))
+unfolding tellOf tellIn tellCounts phaseEnds keepsOf
+tell-spent s m q h c = rw c (go (s .party .work) refl)
+  where
+    Spent : Outcome → Type 0
+    Spent o = IfDone o (λ (p : Plan). TellSpent (m .replica .0) (p .party .work))
+
+    ends : (cell : Cell) (goal : Goal) (held : Pair) → Spent (phaseEnds goal s m cell held)
+    ends cell Read held = tt
+    ends cell (Write v) held = either Spent (eqb (held .stamp .number) 4294967295) _ _ (λ e. tt) (λ e. tt)
+
+    go : (w : Work) → s .party .work ≡ w → Spent (tellIn w s m q)
+    go Idle e = rw e tt
+    go (Keeping cell goal set held) e = rw e tt
+    go (Asking cell goal set held) e =
+        either Spent (hasReplica set (m .replica .0)) _ _ (λ u. rw e u)
+        (λ u. either Spent (asksEnough (s .replicas) (withReplica set (m .replica .0))) _ _ (λ z. ends cell goal (holds set held q)) (λ z. with-has set (m .replica .0) h))
+
+-- an answer that isn't for the client's operation is used up
+kept-stale : (s : Sight) (m : Message) → current (s .party) m ≡ false → keptOf s m ≡ usedUp s m
+unfolding keptOf
+kept-stale s m c = rw c
+
+tell-stale : (s : Sight) (m : Message) (q : Pair) → current (s .party) m ≡ false → tellOf s m q ≡ usedUp s m
+unfolding tellOf
+tell-stale s m q c = rw c
+
+tell-delivered : (s : Sight) (m : Message) (q : Pair) (slot : ℕ) → m .body ≡ Tell q → planOf s (Full m) (Deliver slot) ≡ tellOf s m q
+unfolding planOf ofSlot deliverOf deliverIn
+tell-delivered s m q slot b = ap (λ (x : Body). deliverIn x s m) b
+
+kept-delivered : (s : Sight) (m : Message) (slot : ℕ) → m .body ≡ Kept → planOf s (Full m) (Deliver slot) ≡ keptOf s m
+unfolding planOf ofSlot deliverOf deliverIn
+kept-delivered s m slot b = ap (λ (x : Body). deliverIn x s m) b
+
+-- one answer and one more, of which is known what spends them and that they are used up when stale
+module _ (s t : Sight) (m n : Message) (same : n .op ≡ m .op) (one more : Outcome) (Spent : Work → Type 0) where
+  same-current : t .party ≡ s .party → current (s .party) m ≡ false → current (t .party) n ≡ false
+  unfolding current
+  same-current e c = rw (e, same) c
+
+  spent-once : (current (s .party) m ≡ true → IfDone one (λ (p : Plan). Spent (p .party .work))) → (current (s .party) m ≡ false → one ≡ usedUp s m)
+      → (Spent (t .party .work) → more ≡ usedUp t n) → (current (t .party) n ≡ false → more ≡ usedUp t n)
+      → IfDone one (λ (p : Plan). t .party ≡ p .party → more ≡ usedUp t n)
+  spent-once spends stale used more-stale = go (current (s .party) m) refl
+    where
+      each : (o : Outcome) → IfDone o (λ (p : Plan). Spent (p .party .work)) → IfDone o (λ (p : Plan). t .party ≡ p .party → more ≡ usedUp t n)
+      each (No k) u = tt
+      each (Go p) u = λ e. used (rw e u)
+
+      go : (c : Bool) → current (s .party) m ≡ c → IfDone one (λ (p : Plan). t .party ≡ p .party → more ≡ usedUp t n)
+      go true c = each one (spends c)
+      go false c = rw (stale c) (λ e. more-stale (same-current e c))
+
+-- a client counts replicas and not answers: once an answer of a replica is delivered, one more of its answers to that request is used up and nothing else happens
+pub counts-replicas-not-answers : (s t : Sight) (m n : Message) (i j : ℕ) → OneMore m n → m .replica .0 < setBits
+    → IfDone (planOf s (Full m) (Deliver i)) (λ (p : Plan). t .party ≡ p .party → planOf t (Full n) (Deliver j) ≡ usedUp t n)
+counts-replicas-not-answers s t m n i j o h = go (o .kind)
+  where
+    go : SameKind (m .body) (n .body)
+        → IfDone (planOf s (Full m) (Deliver i)) (λ (p : Plan). t .party ≡ p .party → planOf t (Full n) (Deliver j) ≡ usedUp t n)
+    go (tells p q a b) =
+        rw (tell-delivered s m p i a, tell-delivered t n q j b)
+        (spent-once s t m n (o .op) (tellOf s m p) (tellOf t n q) (TellSpent (m .replica .0)) (tell-spent s m p h) (tell-stale s m p)
+          (λ u. tell-used t n q (rw (o .replica) u)) (tell-stale t n q))
+    go (kepts a b) =
+        rw (kept-delivered s m i a, kept-delivered t n j b)
+        (spent-once s t m n (o .op) (keptOf s m) (keptOf t n) (KeptSpent (m .replica .0)) (kept-spent s m h) (kept-stale s m)
+          (λ u. kept-used t n (rw (o .replica) u)) (kept-stale t n))
