@@ -82,11 +82,12 @@ pub record AsksOn (cell : Cell) (goal : Goal) (set : ℕ) (p : Plan) : Type 0 wh
   pub to : p .to ≡ 0
   pub note : p .note ≡ Nothing
 
--- the client is keeping: what it sends is a keep of the pair that it then holds, nobody is in its set, and nothing is recorded
+-- the client is keeping, nobody is in its set, what it sends is a keep, and nothing is recorded
 pub record KeepsFirst (cell : Cell) (goal : Goal) (p : Plan) : Type 0 where
   pub held : Pair
+  pub kept : Pair
   pub work : p .party .work ≡ Keeping cell goal 0 held
-  pub sends : p .message .body ≡ Keep held
+  pub sends : p .message .body ≡ Keep kept
   pub note : p .note ≡ Nothing
 
 -- the pair that a client holds; the fresh one where it holds none

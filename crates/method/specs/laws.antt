@@ -1,5 +1,5 @@
 -- Laws: what is proved, and the definitions that only proofs need.
-pub mod Pins
+pub mod FloatingPins
 pub mod Tests
 pub mod MethodLaws
 pub mod OnlyOne

@@ -76,35 +76,37 @@ tell-ends : (s : Sight) (m : Message) (t : Counting s m) (slot : ℕ) → s .rep
 unfolding tellCounts asksEnough majority
 tell-ends s m t slot most = rw (tell-counts s m t slot, lt-ltb (s .replicas) (2 * countOf (tellers t)) most)
 
--- a read keeps before it gives its value, as a write does: with the ask phase's end nothing is recorded, and a keep is sent of the pair that is then held
-pub read-keeps-first : (s : Sight) (m : Message) (t : Counting s m) (slot : ℕ) → s .replicas < 2 * countOf (tellers t)
-    → IfDone (planOf s (Full m) (Deliver slot)) (KeepsFirst (t .cell) (t .goal))
-unfolding phaseEnds keepsOf
-read-keeps-first s m t slot most = rw (tell-ends s m t slot most) (go (t .goal) (holds (t .set) (t .held) (t .told)))
-  where
-    go : (goal : Goal) (q : Pair) → IfDone (phaseEnds goal s m (t .cell) q) (KeepsFirst (t .cell) goal)
-    go Read q = record { held = q; work = refl; sends = refl; note = refl }
-    go (Write v) q =
-        either (λ (o : Outcome). IfDone o (KeepsFirst (t .cell) (Write v))) (eqb (q .stamp .number) 4294967295) _ _ (λ e. tt)
-        (λ e. record { held = written (m .client) v q; work = refl; sends = refl; note = refl })
-
--- and that keep goes to every replica, not to a majority only
-pub keep-goes-to-every-replica : (s : Sight) (m : Message) (t : Counting s m) (slot : ℕ) → s .replicas < 2 * countOf (tellers t)
-    → IfDone (planOf s (Full m) (Deliver slot)) (λ (p : Plan). p .to ≡ everyReplica (s .replicas))
-unfolding phaseEnds keepsOf
-keep-goes-to-every-replica s m t slot most = rw (tell-ends s m t slot most) (go (t .goal) (holds (t .set) (t .held) (t .told)))
-  where
-    go : (goal : Goal) (q : Pair) → IfDone (phaseEnds goal s m (t .cell) q) (λ (p : Plan). p .to ≡ everyReplica (s .replicas))
-    go Read q = refl
-    go (Write v) q =
-        either (λ (o : Outcome). IfDone o (λ (p : Plan). p .to ≡ everyReplica (s .replicas))) (eqb (q .stamp .number) 4294967295) _ _ (λ e. tt) (λ e. refl)
-
 -- a write whose ask phase would end with held number 4,294,967,295 is refused 12
 pub last-number-is-refused : (s : Sight) (m : Message) (t : Counting s m) (slot : ℕ) (v : ℤ) → s .replicas < 2 * countOf (tellers t) → t .goal ≡ Write v
     → holds (t .set) (t .held) (t .told) .stamp .number ≡ 4294967295 → planOf s (Full m) (Deliver slot) ≡ No 12
 unfolding phaseEnds
 last-number-is-refused s m t slot v most w e =
     rw (tell-ends s m t slot most, w, eq-eqb (holds (t .set) (t .held) (t .told) .stamp .number) 4294967295 e)
+
+-- a read keeps before it gives its value, as a write does: when the ask phase ends, what is sent is a keep and nothing is recorded
+pub read-keeps-first : (s : Sight) (m : Message) (t : Counting s m) (slot : ℕ) → s .replicas < 2 * countOf (tellers t)
+    → IfDone (planOf s (Full m) (Deliver slot)) (KeepsFirst (t .cell) (t .goal))
+unfolding phaseEnds keepsOf
+read-keeps-first s m t slot most = rw (tell-ends s m t slot most) (go (t .goal) (holds (t .set) (t .held) (t .told)))
+  where
+    go : (goal : Goal) (q : Pair) → IfDone (phaseEnds goal s m (t .cell) q) (KeepsFirst (t .cell) goal)
+    go Read q = record { held = _; kept = _; work = refl; sends = refl; note = refl }
+    go (Write v) q =
+        either (λ (o : Outcome). IfDone o (KeepsFirst (t .cell) (Write v))) (eqb (q .stamp .number) 4294967295) _ _ (λ e. tt)
+        (λ e. record { held = _; kept = _; work = refl; sends = refl; note = refl })
+
+-- that keep goes to every replica, not to a majority only
+pub keep-goes-to-every-replica : (s : Sight) (m : Message) (t : Counting s m) (slot : ℕ) → s .replicas < 2 * countOf (tellers t)
+    → IfDone (planOf s (Full m) (Deliver slot)) (λ (p : Plan). p .to ≡ everyReplica (s .replicas))
+unfolding phaseEnds keepsOf
+keep-goes-to-every-replica s m t slot most = rw (tell-ends s m t slot most) (go (t .goal) (holds (t .set) (t .held) (t .told)))
+  where
+    ToEvery : Outcome → Type 0
+    ToEvery o = IfDone o (λ (p : Plan). p .to ≡ everyReplica (s .replicas))
+
+    go : (goal : Goal) (q : Pair) → ToEvery (phaseEnds goal s m (t .cell) q)
+    go Read q = refl
+    go (Write v) q = either ToEvery (eqb (q .stamp .number) 4294967295) _ _ (λ e. tt) (λ e. refl)
 
 -- ---- a resend
 
@@ -137,7 +139,7 @@ not-both-below a b = go (ltb (a .number) (b .number)) refl (eqb (a .number) (b .
     go false p true q false r e = never e
     go false p false q z r e = never e
 
--- a stamp with the next number is above all that this one isn't below
+-- a stamp with the next number isn't below what this one isn't below
 next-not-below : (a b : Stamp) (rank : ℕ) → stampLess a b ≡ false → stampLess (record { number = a .number + 1; rank = rank }) b ≡ false
 unfolding stampLess
 next-not-below a b rank = go (ltb (a .number) (b .number)) refl
@@ -149,16 +151,7 @@ next-not-below a b rank = go (ltb (a .number) (b .number)) refl
         let l = ltb-false (a .number) (b .number) p in
         rw (le-ltb (a .number + 1) (b .number) (omega arith), ne-eqb (a .number + 1) (b .number) (λ k. omega arith))
 
-holds-greatest : (goal : Goal) (set : ℕ) (held told : Pair) → Greatest goal set held told (holds set held told)
-unfolding holds raised
-holds-greatest goal set held told =
-    either (Greatest goal set held told) (eqb set 0) told (raised held told)
-    (λ e. record { now = not-below-itself (told .stamp); before = λ n. absurd (n (eqb-true set 0 e)); whole = λ r. inl refl })
-    (λ e. either (Greatest goal set held told) (stampLess (held .stamp) (told .stamp)) told held
-      (λ l. record { now = not-below-itself (told .stamp); before = λ n. not-both-below (held .stamp) (told .stamp) l; whole = λ r. inl refl })
-      (λ l. record { now = l; before = λ n. not-below-itself (held .stamp); whole = λ r. inr refl }))
-
--- the pair of a write is above what was held
+-- the pair of a write
 written-greatest : (client : Client) (v : ℤ) (set : ℕ) (held told q : Pair) → Greatest (Write v) set held told q
     → Greatest (Write v) set held told (written client v q)
 written-greatest client v set held told q g =
@@ -168,13 +161,12 @@ written-greatest client v set held told q g =
       whole = λ r. absurd (let z : _≡_ {A = ℕ} 0 1 = cc in omega arith);
     }
 
--- after a tell that counts the client holds the greatest pair, not the replica's own nor the last one told: no stamp told so far is above the one held
+-- after a tell that counts the client holds the greatest pair, not the replica's own nor the one told last: no stamp told so far is above the one held
 pub greatest-is-held : (s : Sight) (m : Message) (t : Counting s m) (slot : ℕ)
     → IfDone (planOf s (Full m) (Deliver slot)) (λ (p : Plan). Greatest (t .goal) (t .set) (t .held) (t .told) (heldBy (p .party .work)))
-unfolding tellCounts phaseEnds keepsOf
+unfolding tellCounts phaseEnds keepsOf holds raised
 greatest-is-held s m t slot =
-    rw (tell-counts s m t slot)
-    (either (Holding (t .goal)) (asksEnough (s .replicas) (tellers t)) _ _ (λ e. ends (t .goal)) (λ e. holds-greatest (t .goal) (t .set) (t .held) (t .told)))
+    rw (tell-counts s m t slot) (either (Holding (t .goal)) (asksEnough (s .replicas) (tellers t)) _ _ (λ e. ends (t .goal)) (λ e. told (t .goal)))
   where
     Holding : Goal → Outcome → Type 0
     Holding goal o = IfDone o (λ (p : Plan). Greatest goal (t .set) (t .held) (t .told) (heldBy (p .party .work)))
@@ -182,11 +174,19 @@ greatest-is-held s m t slot =
     q : Pair
     q = holds (t .set) (t .held) (t .told)
 
+    told : (goal : Goal) → Greatest goal (t .set) (t .held) (t .told) q
+    told goal =
+        either (Greatest goal (t .set) (t .held) (t .told)) (eqb (t .set) 0) (t .told) (raised (t .held) (t .told))
+        (λ e. record { now = not-below-itself (t .told .stamp); before = λ n. absurd (n (eqb-true (t .set) 0 e)); whole = λ r. inl refl })
+        (λ e. either (Greatest goal (t .set) (t .held) (t .told)) (stampLess (t .held .stamp) (t .told .stamp)) (t .told) (t .held)
+        (λ l. record { now = not-below-itself (t .told .stamp); before = λ n. not-both-below (t .held .stamp) (t .told .stamp) l; whole = λ r. inl refl })
+        (λ l. record { now = l; before = λ n. not-below-itself (t .held .stamp); whole = λ r. inr refl }))
+
     ends : (goal : Goal) → Holding goal (phaseEnds goal s m (t .cell) q)
-    ends Read = holds-greatest Read (t .set) (t .held) (t .told)
+    ends Read = told Read
     ends (Write v) =
         either (Holding (Write v)) (eqb (q .stamp .number) 4294967295) _ _ (λ e. tt)
-        (λ e. written-greatest (m .client) v (t .set) (t .held) (t .told) q (holds-greatest (Write v) (t .set) (t .held) (t .told)))
+        (λ e. written-greatest (m .client) v (t .set) (t .held) (t .told) q (told (Write v)))
 
 -- ---- one more answer of the same replica
 
@@ -202,68 +202,22 @@ TellSpent k Idle = Unit {0}
 TellSpent k (Asking cell goal set held) = hasReplica set k ≡ true
 TellSpent k (Keeping cell goal set held) = Unit {0}
 
-kept-used : (s : Sight) (m : Message) → KeptSpent (m .replica .0) (s .party .work) → keptOf s m ≡ usedUp s m
-unfolding keptOf keptIn
-kept-used s m k = either (λ (o : Outcome). o ≡ usedUp s m) (current (s .party) m) _ _ (λ e. go (s .party .work) k) (λ e. refl)
-  where
-    go : (w : Work) → KeptSpent (m .replica .0) w → keptIn w s m ≡ usedUp s m
-    go Idle u = refl
-    go (Asking cell goal set held) u = refl
-    go (Keeping cell goal set held) u = rw u
+-- one answer and one more for the same operation number: where the first leaves the client at what spends it, one more is used up
+module _ (s t : Sight) (m n : Message) (same : n .op ≡ m .op) (Spent : Work → Type 0) where
+  same-stale : t .party ≡ s .party → current (s .party) m ≡ false → current (t .party) n ≡ false
+  unfolding current
+  same-stale e c = rw (e, same) c
 
-tell-used : (s : Sight) (m : Message) (q : Pair) → TellSpent (m .replica .0) (s .party .work) → tellOf s m q ≡ usedUp s m
-unfolding tellOf tellIn
-tell-used s m q k = either (λ (o : Outcome). o ≡ usedUp s m) (current (s .party) m) _ _ (λ e. go (s .party .work) k) (λ e. refl)
-  where
-    go : (w : Work) → TellSpent (m .replica .0) w → tellIn w s m q ≡ usedUp s m
-    go Idle u = refl
-    go (Asking cell goal set held) u = rw u
-    go (Keeping cell goal set held) u = refl
+  used-again : (one more : Outcome) → IfDone one (λ (p : Plan). Spent (p .party .work)) → (Spent (t .party .work) → more ≡ usedUp t n)
+      → IfDone (cond (current (s .party) m) one (usedUp s m)) (λ (p : Plan). t .party ≡ p .party → cond (current (t .party) n) more (usedUp t n) ≡ usedUp t n)
+  used-again one more u used = either (λ (r : Outcome). IfDone r Used) (current (s .party) m) one (usedUp s m) (λ c. each one u) (λ c e. rw (same-stale e c) refl)
+    where
+      Used : Plan → Type 0
+      Used p = t .party ≡ p .party → cond (current (t .party) n) more (usedUp t n) ≡ usedUp t n
 
--- a kept that is for the client's operation is spent once it is delivered
-kept-spent : (s : Sight) (m : Message) → m .replica .0 < setBits → current (s .party) m ≡ true
-    → IfDone (keptOf s m) (λ (p : Plan). KeptSpent (m .replica .0) (p .party .work))
-unfolding keptOf keptIn keptCounts
-kept-spent s m h c = rw c (go (s .party .work) refl)
-  where
-    Spent : Outcome → Type 0
-    Spent o = IfDone o (λ (p : Plan). KeptSpent (m .replica .0) (p .party .work))
-
-    go : (w : Work) → s .party .work ≡ w → Spent (keptIn w s m)
-    go Idle e = rw e tt
-    go (Asking cell goal set held) e = rw e tt
-    go (Keeping cell goal set held) e =
-        either Spent (hasReplica set (m .replica .0)) _ _ (λ u. rw e u)
-        (λ u. either Spent (keepsEnough (s .replicas) (withReplica set (m .replica .0))) _ _ (λ z. tt) (λ z. with-has set (m .replica .0) h))
-
--- a tell that is for the client's operation is spent once it is delivered
-tell-spent : (s : Sight) (m : Message) (q : Pair) → m .replica .0 < setBits → current (s .party) m ≡ true
-    → IfDone (tellOf s m q) (λ (p : Plan). TellSpent (m .replica .0) (p .party .work))
-unfolding tellOf tellIn tellCounts phaseEnds keepsOf
-tell-spent s m q h c = rw c (go (s .party .work) refl)
-  where
-    Spent : Outcome → Type 0
-    Spent o = IfDone o (λ (p : Plan). TellSpent (m .replica .0) (p .party .work))
-
-    ends : (cell : Cell) (goal : Goal) (held : Pair) → Spent (phaseEnds goal s m cell held)
-    ends cell Read held = tt
-    ends cell (Write v) held = either Spent (eqb (held .stamp .number) 4294967295) _ _ (λ e. tt) (λ e. tt)
-
-    go : (w : Work) → s .party .work ≡ w → Spent (tellIn w s m q)
-    go Idle e = rw e tt
-    go (Keeping cell goal set held) e = rw e tt
-    go (Asking cell goal set held) e =
-        either Spent (hasReplica set (m .replica .0)) _ _ (λ u. rw e u)
-        (λ u. either Spent (asksEnough (s .replicas) (withReplica set (m .replica .0))) _ _ (λ z. ends cell goal (holds set held q)) (λ z. with-has set (m .replica .0) h))
-
--- an answer that isn't for the client's operation is used up
-kept-stale : (s : Sight) (m : Message) → current (s .party) m ≡ false → keptOf s m ≡ usedUp s m
-unfolding keptOf
-kept-stale s m c = rw c
-
-tell-stale : (s : Sight) (m : Message) (q : Pair) → current (s .party) m ≡ false → tellOf s m q ≡ usedUp s m
-unfolding tellOf
-tell-stale s m q c = rw c
+      each : (r : Outcome) → IfDone r (λ (p : Plan). Spent (p .party .work)) → IfDone r Used
+      each (No x) v = tt
+      each (Go p) v = λ e. either (λ (r : Outcome). r ≡ usedUp t n) (current (t .party) n) more (usedUp t n) (λ c. used (rw e v)) (λ c. refl)
 
 tell-delivered : (s : Sight) (m : Message) (q : Pair) (slot : ℕ) → m .body ≡ Tell q → planOf s (Full m) (Deliver slot) ≡ tellOf s m q
 unfolding planOf ofSlot deliverOf deliverIn
@@ -273,37 +227,56 @@ kept-delivered : (s : Sight) (m : Message) (slot : ℕ) → m .body ≡ Kept →
 unfolding planOf ofSlot deliverOf deliverIn
 kept-delivered s m slot b = ap (λ (x : Body). deliverIn x s m) b
 
--- one answer and one more, of which is known what spends them and that they are used up when stale
-module _ (s t : Sight) (m n : Message) (same : n .op ≡ m .op) (one more : Outcome) (Spent : Work → Type 0) where
-  same-current : t .party ≡ s .party → current (s .party) m ≡ false → current (t .party) n ≡ false
-  unfolding current
-  same-current e c = rw (e, same) c
-
-  spent-once : (current (s .party) m ≡ true → IfDone one (λ (p : Plan). Spent (p .party .work))) → (current (s .party) m ≡ false → one ≡ usedUp s m)
-      → (Spent (t .party .work) → more ≡ usedUp t n) → (current (t .party) n ≡ false → more ≡ usedUp t n)
-      → IfDone one (λ (p : Plan). t .party ≡ p .party → more ≡ usedUp t n)
-  spent-once spends stale used more-stale = go (current (s .party) m) refl
-    where
-      each : (o : Outcome) → IfDone o (λ (p : Plan). Spent (p .party .work)) → IfDone o (λ (p : Plan). t .party ≡ p .party → more ≡ usedUp t n)
-      each (No k) u = tt
-      each (Go p) u = λ e. used (rw e u)
-
-      go : (c : Bool) → current (s .party) m ≡ c → IfDone one (λ (p : Plan). t .party ≡ p .party → more ≡ usedUp t n)
-      go true c = each one (spends c)
-      go false c = rw (stale c) (λ e. more-stale (same-current e c))
-
 -- a client counts replicas and not answers: once an answer of a replica is delivered, one more of its answers to that request is used up and nothing else happens
 pub counts-replicas-not-answers : (s t : Sight) (m n : Message) (i j : ℕ) → OneMore m n → m .replica .0 < setBits
     → IfDone (planOf s (Full m) (Deliver i)) (λ (p : Plan). t .party ≡ p .party → planOf t (Full n) (Deliver j) ≡ usedUp t n)
+unfolding tellOf tellIn tellCounts phaseEnds keepsOf keptOf keptIn keptCounts
 counts-replicas-not-answers s t m n i j o h = go (o .kind)
   where
+    k : ℕ
+    k = m .replica .0
+
+    TellLeft : Outcome → Type 0
+    TellLeft r = IfDone r (λ (p : Plan). TellSpent k (p .party .work))
+
+    tell-ended : (cell : Cell) (goal : Goal) (held : Pair) → TellLeft (phaseEnds goal s m cell held)
+    tell-ended cell Read held = tt
+    tell-ended cell (Write v) held = either TellLeft (eqb (held .stamp .number) 4294967295) _ _ (λ e. tt) (λ e. tt)
+
+    tell-left : (q : Pair) (w : Work) → s .party .work ≡ w → TellLeft (tellIn w s m q)
+    tell-left q Idle e = rw e tt
+    tell-left q (Keeping cell goal set held) e = rw e tt
+    tell-left q (Asking cell goal set held) e =
+        either TellLeft (hasReplica set k) _ _ (λ u. rw e u)
+        (λ u. either TellLeft (asksEnough (s .replicas) (withReplica set k)) _ _ (λ z. tell-ended cell goal (holds set held q)) (λ z. with-has set k h))
+
+    tell-used : (q : Pair) (w : Work) → TellSpent (n .replica .0) w → tellIn w t n q ≡ usedUp t n
+    tell-used q Idle u = refl
+    tell-used q (Asking cell goal set held) u = rw u
+    tell-used q (Keeping cell goal set held) u = refl
+
+    KeptLeft : Outcome → Type 0
+    KeptLeft r = IfDone r (λ (p : Plan). KeptSpent k (p .party .work))
+
+    kept-left : (w : Work) → s .party .work ≡ w → KeptLeft (keptIn w s m)
+    kept-left Idle e = rw e tt
+    kept-left (Asking cell goal set held) e = rw e tt
+    kept-left (Keeping cell goal set held) e =
+        either KeptLeft (hasReplica set k) _ _ (λ u. rw e u)
+        (λ u. either KeptLeft (keepsEnough (s .replicas) (withReplica set k)) _ _ (λ z. tt) (λ z. with-has set k h))
+
+    kept-used : (w : Work) → KeptSpent (n .replica .0) w → keptIn w t n ≡ usedUp t n
+    kept-used Idle u = refl
+    kept-used (Asking cell goal set held) u = refl
+    kept-used (Keeping cell goal set held) u = rw u
+
     go : SameKind (m .body) (n .body)
         → IfDone (planOf s (Full m) (Deliver i)) (λ (p : Plan). t .party ≡ p .party → planOf t (Full n) (Deliver j) ≡ usedUp t n)
     go (tells p q a b) =
         rw (tell-delivered s m p i a, tell-delivered t n q j b)
-        (spent-once s t m n (o .op) (tellOf s m p) (tellOf t n q) (TellSpent (m .replica .0)) (tell-spent s m p h) (tell-stale s m p)
-          (λ u. tell-used t n q (rw (o .replica) u)) (tell-stale t n q))
+        (used-again s t m n (o .op) (TellSpent k) (tellIn (s .party .work) s m p) (tellIn (t .party .work) t n q) (tell-left p (s .party .work) refl)
+        (λ u. tell-used q (t .party .work) (rw (o .replica) u)))
     go (kepts a b) =
         rw (kept-delivered s m i a, kept-delivered t n j b)
-        (spent-once s t m n (o .op) (keptOf s m) (keptOf t n) (KeptSpent (m .replica .0)) (kept-spent s m h) (kept-stale s m)
-          (λ u. kept-used t n (rw (o .replica) u)) (kept-stale t n))
+        (used-again s t m n (o .op) (KeptSpent k) (keptIn (s .party .work) s m) (keptIn (t .party .work) t n) (kept-left (s .party .work) refl)
+        (λ u. kept-used (t .party .work) (rw (o .replica) u)))
