@@ -13,6 +13,7 @@ use borrow.Author.Tests.{lt-ltb, le-ltb, ltb-true, ltb-false, eq-eqb, eqb-true, 
 use Rattle.quorum.specs.Sets.{setBits, hasReplica, withReplica, countOf, majority, asksEnough, keepsEnough, everyReplica, others, within, withoutReplica}
 use Rattle.quorum.specs.laws.Bits.{bit, bit-most, bit-none, has-one, has-zero, one-has, zero-has, or-bit, and-bit, left-bit, pow-same, pow-other, and-fresh, and-there}
 use Rattle.quorum.specs.laws.Bits.{all-below, bit-below, same-bits, ones-both, ones-left, ones-one, some-bit}
+use Rattle.quorum.specs.laws.FloatingPins.{half-is-not-enough}
 use Rattle.quorum.specs.Shared.{Shared}
 
 -- the test of a set of n replicas, and what it tells
@@ -191,12 +192,10 @@ least n = record { enough = λ s h. count-majority n s (omega arith); fewer = λ
 
 -- no replica is never enough
 pub none-asks : (n : ℕ) → 1 ≤ n → asksEnough n 0 ≡ false
-unfolding asksEnough
-none-asks n h = count-minority n 0 (omega (arith, none-count))
+none-asks n h = half-is-not-enough n 0 (omega (arith, none-count)) .0
 
 pub none-keeps : (n : ℕ) → 1 ≤ n → keepsEnough n 0 ≡ false
-unfolding keepsEnough
-none-keeps n h = count-minority n 0 (omega (arith, none-count))
+none-keeps n h = half-is-not-enough n 0 (omega (arith, none-count)) .1
 
 pub none-has : (k : ℕ) → hasReplica 0 k ≡ false
 none-has k = zero-has 0 k (bit-none k)
