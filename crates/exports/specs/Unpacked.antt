@@ -1,4 +1,5 @@
--- What a caller takes a packed answer apart into: bits 0 to 31 a number, bits 32 to 39 the refusal, 0 for none, bits 40 to 47 a count of bytes.
+-- What a caller takes a packed answer apart into: bits 0 to 31 a number, bits 32 to 39 the refusal, 0 for none, bits 40 to 47 a count of bytes or, of a
+-- verdict, one more than its cell.
 use Prim.Native.Nat.{ℕ, _+_, _-_, _/_, _%_, _^_, _≤_, _<_}
 use mathlib.Core.Path.{_≡_}
 use mathlib.Core.Bool.{cond}

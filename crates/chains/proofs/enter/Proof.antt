@@ -8,7 +8,9 @@ element-copy-out-if1 : tie.Need-element-copy-out-if1
 element-copy-out-if1 c = search needs
 
 returns : tie.Need-returns
-returns c = is-entered (chained-pass (c .before .before .pre .1) (c .before .before .pre .0) (c .if1 .taken)) (λ a. c .if1 .taken (a .write)) (pass-only (c .before .before .pre .1) (c .before .before .pre .0))
+returns c =
+    let pre = c .before .before .pre in
+    is-entered (chained-pass (pre .1) (pre .0) (c .if1 .taken)) (λ a. c .if1 .taken (a .write)) (pass-only (pre .1) (pre .0))
 
 asks-again-requires : tie.Need-asks-again-requires
 asks-again-requires c κs = search needs

@@ -37,7 +37,11 @@ loop-less : tie.Need-loop-less Inv-loop μ-loop
 loop-less c = search needs
 
 loop-again : tie.Need-loop-again Inv-loop μ-loop
-loop-again c = let more = c .before .enter .ensures .entered (not-false _ (c .if1 .left)) in (omega arith, more .0, none-more (more .1) (c .before .before .before .before .before .loop .inv .2), stays-on (c .before .before .before .before .before .loop .inv .3) (c .before .enter .ensures .others (not-false _ (c .if1 .left))))
+loop-again c =
+    let yes = not-false _ (c .if1 .left) in
+    let more = c .before .enter .ensures .entered yes in
+    let inv = c .before .before .before .before .before .loop .inv in
+    (omega arith, more .0, none-more (more .1) (inv .2), stays-on (inv .3) (c .before .enter .ensures .others yes))
 
 returns-2 : tie.Need-returns-2 Inv-loop μ-loop
 returns-2 c = links-all (c .before .loop .inv .0) (c .loop-test .left) (c .before .loop .inv .1) (c .before .loop .inv .2) (c .before .loop .inv .3)

@@ -94,7 +94,6 @@ module _ {kinds cells values : List ℕ} where
   one-linked (againAt p) allLinked a b = let (l, (g, _)) = a .again p refl in absurd (b .all refl .0 p l g)
   one-linked (againAt p) (againAt q) a b = let (_, (g, f)) = a .again p refl in let (_, (h, e)) = b .again q refl in ap againAt (one-first g h f e)
 
-
   -- and leaves one table, in every number of it
   pub one-link : {n : ℕ} {was head next head′ next′ : List ℕ} (r s : Linked) → Linking kinds cells values n was head next r → Linking kinds cells values n was head′ next′ s
       → SameLink r s head head′ next next′

@@ -14,7 +14,8 @@ read-record-requires : tie.Need-read-record-requires
 read-record-requires c κs = search needs
 
 packed-requires : tie.Need-packed-requires
-packed-requires c κs = read-fits _ _ (λ i. c .before .before .before .before .before .shared-slice-known .given i .fits) _ (sym (c .before .before .read-record .ensures .answers))
+packed-requires c κs =
+    read-fits _ _ (λ i. c .before .before .before .before .before .shared-slice-known .given i .fits) _ (sym (c .before .before .read-record .ensures .answers))
 
 same-length : tie.Need-same-length
 same-length c = search needs

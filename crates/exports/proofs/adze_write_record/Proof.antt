@@ -14,7 +14,8 @@ write-record-requires : tie.Need-write-record-requires
 write-record-requires c κs = search needs
 
 packed-requires : tie.Need-packed-requires
-packed-requires c κs = write-fits _ _ (λ i. c .before .before .before .before .before .shared-slice-known .given i .fits) _ (sym (c .before .before .write-record .ensures .answers))
+packed-requires c κs =
+    write-fits _ _ (λ i. c .before .before .before .before .before .shared-slice-known .given i .fits) _ (sym (c .before .before .write-record .ensures .answers))
 
 same-length : tie.Need-same-length
 same-length c = search needs

@@ -146,7 +146,7 @@ write-number-parts d at n = put-parts at (putAnswer d at n) (put-fits-bits d at 
 pub write-number-back : (d : List ℕ) (at n : ℕ) → unpackedPut at (packedPut at (putAnswer d at n)) ≡ putAnswer d at n
 write-number-back d at n = put-back at (putAnswer d at n) (put-fits-bits d at n (putAnswer d at n) refl)
 
--- adze_read_record
+-- adze_read_record: of its count and the entry that a refusal names one is 0
 pub read-record-parts : (s d : List ℕ) → Bytes s → (a : Answer) → a ≡ readOutcome s d .answer → Parts (packedAnswer a) (refusalIn a) (countIn a + entryIn a) 0
 read-record-parts s d b a e = answer-parts a (read-fits s d b a (sym e))
 
@@ -160,7 +160,7 @@ write-record-parts ws d b a e = answer-parts a (write-fits ws d b a (sym e))
 pub write-record-back : (ws d : List ℕ) → Words ws → unpackedAnswer (packedAnswer (writeOutcome ws d .answer)) ≡ writeOutcome ws d .answer
 write-record-back ws d b = answer-back (writeOutcome ws d .answer) (write-fits ws d b (writeOutcome ws d .answer) refl)
 
--- adze_verdict
+-- adze_verdict: bits 40 to 47 are one more than the cell of an unlawful verdict
 pub judged-parts : (s : List ℕ) → Bytes s → (v : Verdict) → Judges (takenFor s) v
     → Parts (packedVerdict v) (refusalBy v) (entryBy v) (cond (eqb (caseOf v) 1) (cellIn v + 1) 0)
 judged-parts s b v j = verdict-parts v (verdict-fits s b v j)

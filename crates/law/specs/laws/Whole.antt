@@ -54,8 +54,7 @@ past-cells es h c b =
 -- the sixteen cells are enough
 pub record-locality-16 : (es : List Entry) → Legal es → Lawful (operations es) ↔ ((c : ℕ) → c < 16 → Lawful (operations (partOf c es)))
 record-locality-16 es h =
-    let l = record-locality es h in
-    (
+    let l = record-locality es h in (
       λ o c b. l .0 o c,
       λ f. l .1 (λ c. elim (decLt c 16) [ yes b ↦ f c (omega (arith, b)) | no b ↦ past-cells es h c (omega (arith, b)) ]),
     )
