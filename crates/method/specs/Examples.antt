@@ -25,3 +25,7 @@ telling = Full (messageOf (record { 0 = 0 }) (record { 0 = 1 }) (record { 0 = 0 
 -- a replica that is given the pair it has takes nothing, and answers all the same
 abbrev pub giving : Held
 giving = Full (messageOf (record { 0 = 0 }) (record { 0 = 0 }) (record { 0 = 0 }) 1 (Keep freshPair))
+
+-- a replica that is given a pair with a greater stamp
+abbrev pub newer : Held
+newer = Full (messageOf (record { 0 = 0 }) (record { 0 = 0 }) (record { 0 = 0 }) 1 (Keep (pairOf 2 1 6)))

@@ -1,4 +1,4 @@
--- What is right of all slots that the words are tied to, and when two outcomes of a call are one.
+-- Words as the code has them, and when two outcomes of a call are one.
 use Prim.Native.Nat.{ℕ, _<_, _^_}
 use mathlib.Core.Bool.{Bool}
 use mathlib.Core.List.{List, [], _∷_}
@@ -11,10 +11,6 @@ use Rattle.slots.specs.Words.{Tied, freeIn}
 pub record Sized (ws : List ℕ) : Type 0 where
   pub size : length ws ≡ wordCount
   pub each : (j : ℕ) → j < wordCount → getD ws j 0 < 2 ^ 64
-
--- an answer that is right of all slots that the words are tied to
-abbrev pub Answers : ((ℕ → Bool) → ℕ) → List ℕ → ℕ → Type 0
-Answers is ws r = (f : ℕ → Bool) → Tied f ws → r ≡ is f
 
 -- two outcomes that answer the same slot and leave the same words
 pub record SameTake (r r′ : ℕ) (ws ws′ : List ℕ) : Type 0 where

@@ -1,5 +1,5 @@
 -- What four words mean, soundness and the maker: no other outcome fits a call, and wrong ones do not meet its contract.
-use Prim.Native.Nat.{ℕ}
+use Prim.Native.Nat.{ℕ, _≤_}
 use mathlib.Core.Path.{_≡_, refl, ap, sym, _∙_}
 use mathlib.Core.Bool.{Bool, true, false}
 use mathlib.Core.List.{[], _∷_}
@@ -10,6 +10,7 @@ use Rattle.number.specs.Value.{alternatingOf, signedOf}
 use Rattle.quorum.specs.Sets.{majority, asksEnough, within}
 use Rattle.method.specs.declared.Body.the-variants.{Keep, Kept}
 use Rattle.method.specs.declared.Held.the-variants.{Empty, Full}
+use Rattle.method.specs.declared.Party.{Party}
 use Rattle.method.specs.declared.Event.{Event}
 use Rattle.method.specs.declared.Event.the-variants.{StartRead, StartWrite, Deliver, Lose, Copy, Resend, Stop, Off, On, Unknown}
 use Rattle.rack.specs.declared.Made.{Made}
@@ -104,6 +105,9 @@ unfolding workFits pairFits within asksEnough majority ones
 not-one-unfit r p q = yes-not-no p q
 
 -- ---- owed_by, owed_by_all
+
+pub one-owed : (party : Party) (r r′ : ℕ) → (r ≡ owedBy party) × (r ≤ 1) → (r′ ≡ owedBy party) × (r′ ≤ 1) → r ≡ r′
+one-owed party r r′ p q = p .0 ∙ sym (q .0)
 
 pub not-owed-stopped : (r : ℕ) → r ≡ owedBy stopped → r ≡ 1 → ⊥
 unfolding owedBy

@@ -10,6 +10,7 @@ use lib.ListN.{take}
 use borrow.Author.Tests.{ltb-true}
 use Rattle.number.specs.Number.{taken, lastOf, valueOf, numberOf, numberAt, andThen}
 use Rattle.number.specs.Value.{alternatingOf, signedOf}
+use Rattle.record.specs.declared.Cell.{Cell}
 use Rattle.record.specs.declared.Entry.{Entry}
 use Rattle.number.specs.Below.{Bytes}
 use Rattle.record.specs.Entry.{upTo, fieldsAt, entryAt}
@@ -97,15 +98,15 @@ stale-verdict = no-other stale refl (saysUnlawful (record { 0 = 2 })) stale-judg
 pub not-always-lawful : Judges (takenFor stale) saysLawful → ⊥
 not-always-lawful j = let e = stale-verdict saysLawful j in let z : _≡_ {A = ℕ} 0 1 = cc in omega arith
 
-pub not-always-unlawful : Judges (takenFor sheetBytes) (saysUnlawful (record { 0 = 2 })) → ⊥
-not-always-unlawful j = let e = twelve-verdict (saysUnlawful (record { 0 = 2 })) j in let z : _≡_ {A = ℕ} 0 1 = cc in omega arith
+pub not-always-unlawful : (c : Cell) → Judges (takenFor sheetBytes) (saysUnlawful c) → ⊥
+not-always-unlawful c j = let e = twelve-verdict (saysUnlawful c) j in let z : _≡_ {A = ℕ} 0 1 = cc in omega arith
 
 pub not-always-refused : (k n : ℕ) → Judges (takenFor sheetBytes) (saysRefused k n) → ⊥
 not-always-refused k n j = let e = twelve-verdict (saysRefused k n) j in let z : _≡_ {A = ℕ} 0 1 = cc in omega arith
 
-pub not-another-cell : Judges (takenFor stale) (saysUnlawful (record { 0 = 0 })) → ⊥
+pub not-another-cell : (c : Cell) → (c .0 ≡ 2 → ⊥) → Judges (takenFor stale) (saysUnlawful c) → ⊥
 unfolding cellIn
-not-another-cell j = let z : _≡_ {A = ℕ} 0 2 = ap cellIn (stale-verdict (saysUnlawful (record { 0 = 0 })) j) in omega arith
+not-another-cell c n j = n (ap cellIn (stale-verdict (saysUnlawful c) j))
 
 -- ---- what answers say
 

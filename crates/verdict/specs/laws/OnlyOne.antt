@@ -9,8 +9,8 @@ use mathlib.Core.Logic.{_↔_}
 use mathlib.Core.Bool.{Bool, true, false, cond}
 use native.Mathlib.Omega.{arith}
 use native.Mathlib.Decide.{decLt}
-use lib.ListN.{getD}
 use Rattle.record.specs.declared.Cell.{Cell}
+use Rattle.number.specs.Below.{Bytes}
 use Rattle.law.specs.Operation.{operations}
 use Rattle.law.specs.Order.{Lawful}
 use Rattle.law.specs.laws.Whole.{record-locality, record-locality-16}
@@ -113,7 +113,7 @@ taken-same s es p = go (recordOf s) p
     go (entries fs) q = distinct-same [] fs 0 (entries fs) es q
     go (fault k n) q = q
 
-module _ (s : List ℕ) (bytes : (i : ℕ) → getD s i 0 < 256) where
+module _ (s : List ℕ) (bytes : Bytes s) where
   pub taken-legal : LegalHeld (takenFor s)
   taken-legal es e = reading-legal s es bytes (taken-same s es e)
 
@@ -121,7 +121,16 @@ module _ (s : List ℕ) (bytes : (i : ℕ) → getD s i 0 < 256) where
   pub one-verdict : (v v′ : Verdict) → Judges (takenFor s) v → Judges (takenFor s) v′ → v ≡ v′
   one-verdict v v′ p q = only-one (takenFor s) taken-legal v v′ p q
 
-pub same-verdict : (s : List ℕ) → ((i : ℕ) → getD s i 0 < 256) → (v v′ : Verdict) → Judges (takenFor s) v → Judges (takenFor s) v′ → SameVerdict v v′
+  -- lawful exactly when the bytes hold entries, read without fault and without 29, whose operations are lawful
+  pub bytes-lawful-exactly : (v : Verdict) → Judges (takenFor s) v → (v ≡ saysLawful) ↔ ((es : List Entry) × ((takenFor s ≡ entries es) × Lawful (operations es)))
+  bytes-lawful-exactly v j = (λ q. subst (Judges (takenFor s)) q j, λ o. one-verdict v saysLawful j o)
+
+  -- unlawful cell c exactly when they hold entries and c is the lowest cell whose part isn't lawful
+  pub bytes-unlawful-exactly : (v : Verdict) → Judges (takenFor s) v → (c : Cell)
+      → (v ≡ saysUnlawful c) ↔ ((es : List Entry) × ((takenFor s ≡ entries es) × Lowest es (c .0)))
+  bytes-unlawful-exactly v j c = (λ q. subst (Judges (takenFor s)) q j, λ o. one-verdict v (saysUnlawful c) j o)
+
+pub same-verdict : (s : List ℕ) → Bytes s → (v v′ : Verdict) → Judges (takenFor s) v → Judges (takenFor s) v′ → SameVerdict v v′
 same-verdict s bytes v v′ p q =
     let e = one-verdict s bytes v v′ p q in
     record { says = ap caseOf e; refusal = ap refusalIn e; entry = ap entryIn e; cell = ap cellIn e }
