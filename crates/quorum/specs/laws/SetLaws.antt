@@ -74,18 +74,6 @@ has-with s k j h = ap (λ (x : ℕ). hasReplica x j) (with-is s k h) ∙ go (eqb
 pub with-has : (s k : ℕ) → k < setBits → hasReplica (withReplica s k) k ≡ true
 with-has s k h = has-with s k k h ∙ rw (eq-eqb k k refl)
 
--- who was a member is one, and no other than the one is new
-pub with-old : (s k j : ℕ) → hasReplica s j ≡ true → hasReplica (withReplica s k) j ≡ true
-with-old s k j e = go (ltb k setBits) refl
-  where
-    either : (t : Bool) → (t || true) ≡ true
-    either true = refl
-    either false = refl
-
-    go : (t : Bool) → ltb k setBits ≡ t → hasReplica (withReplica s k) j ≡ true
-    go true q = has-with s k j (ltb-true k setBits q) ∙ rw e (either (eqb j k))
-    go false q = rw (with-beyond s k (ltb-false k setBits q)) e
-
 pub with-new : (s k j : ℕ) → hasReplica (withReplica s k) j ≡ true → (j ≡ k) ⊎ (hasReplica s j ≡ true)
 with-new s k j e = go (ltb k setBits) refl (eqb j k) refl
   where
@@ -127,9 +115,6 @@ with-below n s k h l = go (ltb k setBits) refl
     go false q = rw (with-beyond s k (ltb-false k setBits q)) h
 
 -- ---- counts
-
-pub count-within : (n s : ℕ) → s < 2 ^ n → countOf s ≤ n
-count-within n s h = ones-le n s h
 
 -- a set with a member: one of them, or none and the set is empty
 pub member : (s : ℕ) → 0 < countOf s → (k : ℕ) × (hasReplica s k ≡ true)
@@ -203,15 +188,6 @@ none-has k = zero-has 0 k (bit-none k)
 pub none-within : (n : ℕ) → 0 < 2 ^ n
 none-within n = pow-pos n
 
--- what was enough stays so with one replica more
-pub asks-more : (n s k : ℕ) → asksEnough n s ≡ true → asksEnough n (withReplica s k) ≡ true
-unfolding asksEnough
-asks-more n s k e = count-majority n (withReplica s k) (omega (arith, majority-count n s e, with-count s k))
-
-pub keeps-more : (n s k : ℕ) → keepsEnough n s ≡ true → keepsEnough n (withReplica s k) ≡ true
-unfolding keepsEnough
-keeps-more n s k e = count-majority n (withReplica s k) (omega (arith, majority-count n s e, with-count s k))
-
 -- ---- every replica, and the others
 
 pub every-is : (n : ℕ) → n ≤ setBits → everyReplica n ≡ 2 ^ n - 1
@@ -223,14 +199,6 @@ every-below n h = rw (every-is n h) (ones-lt n)
 
 pub every-count : (n : ℕ) → n ≤ setBits → countOf (everyReplica n) ≡ n
 every-count n h = ap ones (every-is n h) ∙ ones-ones n
-
-pub every-asks : (n : ℕ) → 1 ≤ n → n ≤ setBits → asksEnough n (everyReplica n) ≡ true
-unfolding asksEnough
-every-asks n l h = count-majority n (everyReplica n) (omega (arith, every-count n h))
-
-pub every-keeps : (n : ℕ) → 1 ≤ n → n ≤ setBits → keepsEnough n (everyReplica n) ≡ true
-unfolding keepsEnough
-every-keeps n l h = count-majority n (everyReplica n) (omega (arith, every-count n h))
 
 every-bit : (n k : ℕ) → n ≤ setBits → k < n → bit (everyReplica n) k ≡ 1
 every-bit n k h l = rw (every-is n h) (all-below n k l)
@@ -258,12 +226,6 @@ has-others n s k h = go (ltb k n) refl (hasReplica s k) refl
 pub others-below : (n s : ℕ) → n ≤ setBits → others n s < 2 ^ n
 unfolding others
 others-below n s h = omega (arith, every-below n h)
-
-pub others-count : (n s : ℕ) → n ≤ setBits → s < 2 ^ n → countOf (others n s) + countOf s ≡ n
-unfolding others
-others-count n s h l =
-    let e : bitAnd (everyReplica n) s ≡ s = rw (every-is n h) (and-comm (2 ^ n - 1) s ∙ and-mask s n ∙ mod-eq-of-lt l) in
-    omega (arith, ones-left (everyReplica n) s, every-count n h, ap ones e)
 
 -- ---- one replica less
 

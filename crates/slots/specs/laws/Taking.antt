@@ -26,18 +26,3 @@ took-slot f r ws p h =
       is = taken-here f r;
       else = taken-else f r;
     }
-
--- where none is free nothing changed
-pub took-none : (f : ℕ → Bool) (r : ℕ) (ws ws′ : List ℕ) → Tied f ws → Took f ws′ r → slotCount ≤ r → ws′ ≡ ws
-took-none f r ws ws′ t p h = tied-only wordCount (takenAt f r) ws′ ws (p .left) (taken-past wordCount f ws r h t)
-
--- where one is free one is taken, and then one less is free
-pub took-some : (f : ℕ → Bool) (r : ℕ) (ws : List ℕ) → Took f ws r → 0 < countFree f → r < slotCount
-took-some f r ws p h = omega (arith, p .slot, some-free f h)
-
-pub took-count : (f : ℕ → Bool) (r : ℕ) (ws : List ℕ) → Took f ws r → r < slotCount → countFree (takenAt f r) + 1 ≡ countFree f
-took-count f r ws p h = count-taken f r h (took-slot f r ws p h .was)
-
--- a slot past the end changes nothing
-pub gave-past : (f : ℕ → Bool) (i : ℕ) (ws ws′ : List ℕ) → Tied f ws → Tied (givenAt f i) ws′ → slotCount ≤ i → ws′ ≡ ws
-gave-past f i ws ws′ t p h = tied-only wordCount (givenAt f i) ws′ ws p (given-past wordCount f ws i h t)

@@ -79,12 +79,6 @@ module _ (h : Held) (v : Verdict) (j : Judges h v) where
     λ o. only-one h (λ fs f. subst Legal (one-list e f) l) v saysLawful j (es, (e, o)),
   )
 
-  pub unlawful-exactly : (es : List Entry) → h ≡ entries es → Legal es → (c : Cell) → (v ≡ saysUnlawful c) ↔ Lowest es (c .0)
-  unlawful-exactly es e l c = (
-    λ q. let (fs, (f, o)) = subst (Judges h) q j in subst (λ (xs : List Entry). Lowest xs (c .0)) (one-list f e) o,
-    λ o. only-one h (λ fs f. subst Legal (one-list e f) l) v (saysUnlawful c) j (es, (e, o)),
-  )
-
   pub refused-exactly : (k n : ℕ) → (v ≡ saysRefused k n) ↔ (h ≡ fault k n)
   refused-exactly k n = (
     λ q. subst (Judges h) q j,
