@@ -8,7 +8,7 @@ ghost use Rattle.exports.specs.Unpacked.{AnswerFits, VerdictFits, RunFit
 ghost use Rattle.layout.specs.Calls.{madeOutcome, runOutcome};
 use number::Number;
 use number::Put;
-use record::Answer;
+use record::WordsAnswer;
 use verdict::Verdict;
 
 // The number at a place, with how many bytes it takes.
@@ -50,13 +50,13 @@ pub extern "C" fn adze_signed(n: u32) -> i32
 }
 
 // A record's answer as one number.
-fn packed(a: Answer) -> u64
+fn packed(a: WordsAnswer) -> u64
     requires { ⌜ AnswerFits a ⌝ }
     ensures { λ r. ⌜ r ≡ packedAnswer a ⌝ }
 {
     match a {
-        Answer::All(n) => n as u64,
-        Answer::Refused(k, n) => 4294967296 * (k as u64) + n as u64,
+        WordsAnswer::All(n) => n as u64,
+        WordsAnswer::Refused(k, n) => 4294967296 * (k as u64) + n as u64,
     }
 }
 
@@ -100,7 +100,7 @@ pub extern "C" fn adze_verdict(bytes: &[u8]) -> u64
 }
 
 // What was done on a rack as one number.
-fn packed_run(a: layout::Answer) -> u64
+fn packed_run(a: layout::WordsAnswer) -> u64
     requires { ⌜ RunFits a ⌝ }
     ensures { λ r. ⌜ r ≡ packedRun a ⌝ }
 {

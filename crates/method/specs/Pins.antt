@@ -17,17 +17,17 @@ use Rattle.method.specs.declared.Work.the-variants.{Idle, Asking, Keepin
 use Rattle.method.specs.declared.Sight.{Sight}
 use Rattle.method.specs.declared.Note.the-variants.{Nothing}
 use Rattle.method.specs.declared.Plan.{Plan}
-use Rattle.method.specs.declared.Outcome.{Outcome}
-use Rattle.method.specs.declared.Outcome.the-variants.{No, Go}
+use Rattle.method.specs.declared.Decision.{Decision}
+use Rattle.method.specs.declared.Decision.the-variants.{No, Go}
 use Rattle.method.specs.Plan.{messageOf}
 
 -- the event isn't refused, and its plan is such
-abbrev pub IsDone : Outcome → (Plan → Type 0) → Type 0
+abbrev pub IsDone : Decision → (Plan → Type 0) → Type 0
 IsDone (No k) P = ⊥
 IsDone (Go p) P = P p
 
 -- if the event isn't refused, its plan is such
-abbrev pub IfDone : Outcome → (Plan → Type 0) → Type 0
+abbrev pub IfDone : Decision → (Plan → Type 0) → Type 0
 IfDone (No k) P = Unit {0}
 IfDone (Go p) P = P p
 

@@ -4,13 +4,13 @@ use mathlib.Core.Bool.{Bool}
 use mathlib.Core.List.{List, [], _∷_}
 use mathlib.Core.Path.{_≡_}
 use lib.ListN.{length, getD}
-use Rattle.slots.specs.Free.{wordCount, givenAt}
-use Rattle.slots.specs.Words.{Tied, freeIn}
+use Rattle.slots.specs.Free.{mapWords, givenAt}
+use Rattle.slots.specs.Words.{Maps, freeIn}
 
 -- four words of 64 bits, as the code has them
 pub record Sized (ws : List ℕ) : Type 0 where
-  pub size : length ws ≡ wordCount
-  pub each : (j : ℕ) → j < wordCount → getD ws j 0 < 2 ^ 64
+  pub size : length ws ≡ mapWords
+  pub each : (j : ℕ) → j < mapWords → getD ws j 0 < 2 ^ 64
 
 -- two outcomes that answer the same slot and leave the same words
 pub record SameTake (r r′ : ℕ) (ws ws′ : List ℕ) : Type 0 where
@@ -19,4 +19,4 @@ pub record SameTake (r r′ : ℕ) (ws ws′ : List ℕ) : Type 0 where
 
 -- slot 5 comes to 1 and 2: the words change, and it isn't alone
 abbrev pub Given : List ℕ → Type 0
-Given ws = Tied (givenAt (freeIn (6 ∷ 0 ∷ 0 ∷ 0 ∷ [])) 5) ws
+Given ws = Maps (givenAt (freeIn (6 ∷ 0 ∷ 0 ∷ 0 ∷ [])) 5) ws

@@ -16,7 +16,7 @@ use Rattle.number.specs.declared.Number.{Number}
 use Rattle.number.specs.declared.Number.the-variants.{Is, Refused}
 use Rattle.number.specs.declared.Put.{Put}
 use Rattle.number.specs.declared.Put.the-variants.{Next, NoRoom}
-use Rattle.record.specs.Record.{Held, entries, fault, recordOf, bytesOf}
+use Rattle.record.specs.Record.{Held, entries, fault, bytesHeld, bytesOf}
 use Rattle.number.specs.Below.{Bytes, Words}
 use Rattle.record.specs.Named.{Named}
 use Rattle.record.specs.laws.Trip.{reading-legal, record-few}
@@ -34,15 +34,15 @@ use Rattle.verdict.specs.laws.OnlyOne.{lowest-below, taken-legal}
 use Rattle.verdict.specs.laws.Refusals.{judges-refusals}
 use Rattle.verdict.specs.declared.Verdict.{Verdict}
 use Rattle.verdict.specs.declared.Verdict.the-variants.{Lawful as saysLawful, Unlawful as saysUnlawful, Refused as saysRefused}
-use Rattle.method.specs.declared.Outcome.{Outcome}
-use Rattle.method.specs.declared.Outcome.the-variants.{No, Go}
+use Rattle.method.specs.declared.Decision.{Decision}
+use Rattle.method.specs.declared.Decision.the-variants.{No, Go}
 use Rattle.rack.specs.declared.Rack.{Rack}
 use Rattle.rack.specs.declared.Made.{Made}
 use Rattle.rack.specs.Sound.{sizesFit, soundOf}
 use Rattle.rack.specs.Run.{freshRack, madeOf, eventOf, decided, ranOf, turn, appliedOf, runFrom, runOf}
 use Rattle.rack.specs.laws.Refusals.{decided-refuses}
 use Rattle.runs.specs.laws.Steps.{run-steps}
-use Rattle.layout.specs.declared.Answer.{Answer as Done}
+use Rattle.layout.specs.declared.WordsAnswer.{WordsAnswer as Done}
 use Rattle.layout.specs.Layout.{wordCount}
 use Rattle.layout.specs.Reading.{rackOf}
 use Rattle.layout.specs.Calls.{unfit, makes, madeOutcome, leaves, runOutcome}
@@ -80,7 +80,7 @@ refusal-fits {low} {k} h w = (
 -- what is read has at most 2,048 entries, and what is written at most 16,384 bytes
 pub read-few : (s d : List ℕ) (n : ℕ) → Bytes s → readOutcome s d .answer ≡ All n → n ≤ 2048
 read-few s d n b p =
-    let w = read-took (recordOf s) d n p in
+    let w = read-took (bytesHeld s) d n p in
     let l = reading-legal s (w .all) b (w .held) .few in omega (arith, w .long, rows-length (w .all))
 
 pub write-few : (ws d : List ℕ) (n : ℕ) → Words ws → writeOutcome ws d .answer ≡ All n → n ≤ 16384
@@ -109,7 +109,7 @@ again-within earlier m (e ∷ es) all k n p = go (repeats earlier e) p (again-wi
     go true q f = let i : m ≡ n = cc in omega arith
     go false q f = let h = f q in omega arith
 
-verdict-named : (s : List ℕ) → Bytes s → (h : Held) → recordOf s ≡ h → (k n : ℕ) → distinct h ≡ fault k n → n ≤ 2048
+verdict-named : (s : List ℕ) → Bytes s → (h : Held) → bytesHeld s ≡ h → (k n : ℕ) → distinct h ≡ fault k n → n ≤ 2048
 unfolding distinct
 verdict-named s b (entries es) e k n p = let l = again-within [] 0 es es k n p in let f = reading-legal s es b e .few in omega arith
 verdict-named s b (fault j m) e k n p = let i : fault j m ≡ fault k n = p in named (record-faults s k n (e ∙ i))
@@ -126,7 +126,7 @@ verdict-fits s b saysLawful j = tt
 verdict-fits s b (saysUnlawful c) (es, (e, l)) = lowest-below es (taken-legal s b es e) (c .0) l
 verdict-fits s b (saysRefused k n) j =
     let w = judges-refusals s k n j in
-    (w .0, w .1, verdict-named s b (recordOf s) refl k n j)
+    (w .0, w .1, verdict-named s b (bytesHeld s) refl k n j)
 
 -- ---- racks
 
@@ -158,7 +158,7 @@ from-refusal done r (suc left) (k ∷ a ∷ []) = omega arith
 from-refusal done r (suc left) (k ∷ a ∷ b ∷ []) = omega arith
 from-refusal done r (suc left) (k ∷ a ∷ b ∷ v ∷ ws) = go (decided r (eventOf k a b v)) refl (λ q. from-refusal (done + 1) q left ws)
   where
-    go : (o : Outcome) → decided r (eventOf k a b v) ≡ o → ((q : Rack) → runFrom (done + 1) q left ws .refusal ≤ 13)
+    go : (o : Decision) → decided r (eventOf k a b v) ≡ o → ((q : Rack) → runFrom (done + 1) q left ws .refusal ≤ 13)
         → turn done r (eventOf k a b v) o (λ q. runFrom (done + 1) q left ws) .refusal ≤ 13
     go (No n) e ih = decided-refuses r (eventOf k a b v) n e .1
     go (Go p) e ih = ih (appliedOf r (eventOf k a b v) p)

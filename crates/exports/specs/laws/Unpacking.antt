@@ -21,7 +21,7 @@ use Rattle.verdict.specs.Verdict.{takenFor, Judges}
 use Rattle.verdict.specs.Answers.{caseOf, refusalIn as refusalBy, entryIn as entryBy, cellIn}
 use Rattle.verdict.specs.declared.Verdict.{Verdict}
 use Rattle.verdict.specs.declared.Verdict.the-variants.{Lawful as saysLawful, Unlawful as saysUnlawful, Refused as saysRefused}
-use Rattle.layout.specs.declared.Answer.{Answer as Done}
+use Rattle.layout.specs.declared.WordsAnswer.{WordsAnswer as Done}
 use Rattle.layout.specs.Calls.{madeOutcome, runOutcome}
 use Rattle.exports.specs.Packed.{packedNumber, packedPut, packedAnswer, packedVerdict, Judged, packedRun}
 use Rattle.exports.specs.Unpacked.{numberOfPacked, refusalOfPacked, countOfPacked, Parts, unpackedNumber, unpackedPut, unpackedAnswer, unpackedVerdict, unpackedRun}

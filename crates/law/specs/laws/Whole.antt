@@ -8,7 +8,7 @@ use native.Mathlib.Decide.{decLt}
 use Rattle.record.specs.declared.Entry.{Entry}
 use Rattle.record.specs.Legal.{Legal}
 use Rattle.number.specs.Below.{Bytes}
-use Rattle.record.specs.Record.{entries, recordOf}
+use Rattle.record.specs.Record.{entries, bytesHeld}
 use Rattle.record.specs.laws.Trip.{reading-legal}
 use Rattle.law.specs.Operation.{Op, operations}
 use Rattle.law.specs.Order.{In, Lawful}
@@ -60,5 +60,5 @@ record-locality-16 es h =
     )
 
 -- for every record that reads without fault
-pub read-locality : (s : List ℕ) (es : List Entry) → Bytes s → recordOf s ≡ entries es → Lawful (operations es) ↔ ((c : ℕ) → Lawful (operations (partOf c es)))
+pub read-locality : (s : List ℕ) (es : List Entry) → Bytes s → bytesHeld s ≡ entries es → Lawful (operations es) ↔ ((c : ℕ) → Lawful (operations (partOf c es)))
 read-locality s es bytes e = record-locality es (reading-legal s es bytes e)

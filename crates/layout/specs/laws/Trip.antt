@@ -18,8 +18,8 @@ use Rattle.stamps.specs.declared.Pair.{Pair}
 use Rattle.method.specs.declared.Body.{Body}
 use Rattle.method.specs.declared.Body.the-variants.{Ask, Tell, Keep, Kept}
 use Rattle.method.specs.declared.Message.{Message}
-use Rattle.method.specs.declared.Held.{Held}
-use Rattle.method.specs.declared.Held.the-variants.{Empty, Full}
+use Rattle.method.specs.declared.InSlot.{InSlot}
+use Rattle.method.specs.declared.InSlot.the-variants.{Empty, Full}
 use Rattle.method.specs.declared.Goal.{Goal}
 use Rattle.method.specs.declared.Goal.the-variants.{Read, Write}
 use Rattle.method.specs.declared.Work.{Work}
@@ -115,7 +115,7 @@ pub record MessageSmall (m : Message) : Type 0 where
   pub body : bodySmall (m .body)
 
 -- so does the message of a slot
-abbrev pub heldSmall : Held → Type 0
+abbrev pub heldSmall : InSlot → Type 0
 heldSmall Empty = Unit {0}
 heldSmall (Full m) = MessageSmall m
 
@@ -126,7 +126,7 @@ body-long (Tell p) = refl
 body-long (Keep p) = refl
 body-long Kept = refl
 
-pub slot-long : (x : Held) → length (slotWords x) ≡ 9
+pub slot-long : (x : InSlot) → length (slotWords x) ≡ 9
 unfolding slotWords
 slot-long Empty = refl
 slot-long (Full m) = rw (body-long (m .body))
@@ -158,7 +158,7 @@ full-again ws at m h s =
     let rest : Stands ws (at + 6) (bodyWords (m .body)) = λ o l. (let e : at + 6 + o ≡ at + suc (suc (suc (suc (suc (suc o))))) = omega arith in ap (word ws) e ∙ s (suc (suc (suc (suc (suc (suc o)))))) (omega arith)) in
     rw (mark, kind, client, replica, cell, op, lt-ltb (bodyKind (m .body)) 4 (kind-below (m .body)), lt-ltb (m .op) 65536 (h .op), byte-same (m .client .0) (h .client), byte-same (m .replica .0) (h .replica), byte-same (m .cell .0) (h .cell), body-again ws (at + 6) (m .body) (h .body) rest)
 
-pub slot-again : (ws : List ℕ) (at : ℕ) (x : Held) → heldSmall x → Stands ws at (slotWords x) → heldOf ws at ≡ x
+pub slot-again : (ws : List ℕ) (at : ℕ) (x : InSlot) → heldSmall x → Stands ws at (slotWords x) → heldOf ws at ≡ x
 unfolding slotWords heldOf
 slot-again ws at Empty h s =
     let z : at ≡ at + 0 = omega arith in

@@ -7,7 +7,7 @@ use Rattle.text.specs.Text.{digitsOf, valueText}
 use Rattle.quorum.specs.Sets.{setBits, hasReplica}
 use Rattle.stamps.specs.declared.Pair.{Pair}
 use Rattle.method.specs.declared.Body.the-variants.{Ask, Keep}
-use Rattle.method.specs.declared.Held.the-variants.{Full}
+use Rattle.method.specs.declared.InSlot.the-variants.{Full}
 use Rattle.method.specs.declared.Goal.the-variants.{Read, Write}
 use Rattle.method.specs.declared.Work.the-variants.{Idle, Asking, Keeping}
 use Rattle.lines.specs.Lines.{eachBelow, slotLine, clientLine, sizesLine, faultLine}

@@ -17,8 +17,8 @@ use Rattle.stamps.specs.Stamp.{stampLess, raised}
 use Rattle.method.specs.declared.Body.{Body}
 use Rattle.method.specs.declared.Body.the-variants.{Ask, Tell, Keep, Kept}
 use Rattle.method.specs.declared.Message.{Message}
-use Rattle.method.specs.declared.Held.{Held}
-use Rattle.method.specs.declared.Held.the-variants.{Full}
+use Rattle.method.specs.declared.InSlot.{InSlot}
+use Rattle.method.specs.declared.InSlot.the-variants.{Full}
 use Rattle.method.specs.declared.Goal.{Goal}
 use Rattle.method.specs.declared.Goal.the-variants.{Read, Write}
 use Rattle.method.specs.declared.Work.{Work}
@@ -26,8 +26,8 @@ use Rattle.method.specs.declared.Work.the-variants.{Idle, Asking, Keepin
 use Rattle.method.specs.declared.Sight.{Sight}
 use Rattle.method.specs.declared.Event.the-variants.{Deliver, Resend}
 use Rattle.method.specs.declared.Plan.{Plan}
-use Rattle.method.specs.declared.Outcome.{Outcome}
-use Rattle.method.specs.declared.Outcome.the-variants.{No, Go}
+use Rattle.method.specs.declared.Decision.{Decision}
+use Rattle.method.specs.declared.Decision.the-variants.{No, Go}
 use Rattle.method.specs.Plan.{usedUp, askOf, keepOf, current, keepsOf, written, phaseEnds, holds, tellCounts, tellIn, tellOf}
 use Rattle.method.specs.Plan.{keptCounts, keptIn, keptOf, deliverIn, deliverOf, resendIn, resendOf, ofSlot, planOf}
 use Rattle.method.specs.Pins.{IsDone, IfDone, ToReplica, Answers, SameKind, OneMore, Counting, tellers, AsksOn, KeepsFirst, heldBy, Greatest}
@@ -92,7 +92,7 @@ read-keeps-first s m t slot most = rw (tell-ends s m t slot most) (go (t .goal) 
     go : (goal : Goal) (q : Pair) → IfDone (phaseEnds goal s m (t .cell) q) (KeepsFirst (t .cell) goal)
     go Read q = record { held = _; kept = _; work = refl; sends = refl; note = refl }
     go (Write v) q =
-        either (λ (o : Outcome). IfDone o (KeepsFirst (t .cell) (Write v))) (eqb (q .stamp .number) 4294967295) _ _ (λ e. tt)
+        either (λ (o : Decision). IfDone o (KeepsFirst (t .cell) (Write v))) (eqb (q .stamp .number) 4294967295) _ _ (λ e. tt)
         (λ e. record { held = _; kept = _; work = refl; sends = refl; note = refl })
 
 -- that keep goes to every replica, not to a majority only
@@ -101,7 +101,7 @@ pub keep-goes-to-every-replica : (s : Sight) (m : Message) (t : Counting s m) (s
 unfolding phaseEnds keepsOf
 keep-goes-to-every-replica s m t slot most = rw (tell-ends s m t slot most) (go (t .goal) (holds (t .set) (t .held) (t .told)))
   where
-    ToEvery : Outcome → Type 0
+    ToEvery : Decision → Type 0
     ToEvery o = IfDone o (λ (p : Plan). p .to ≡ everyReplica (s .replicas))
 
     go : (goal : Goal) (q : Pair) → ToEvery (phaseEnds goal s m (t .cell) q)
@@ -111,11 +111,11 @@ keep-goes-to-every-replica s m t slot most = rw (tell-ends s m t slot most) (go 
 -- ---- a resend
 
 -- the stamp isn't chosen anew: what is sent again in the keep phase is a keep of the pair that is held
-pub resend-keeps-its-stamp : (s : Sight) (slot : Held) (client : Client) (cell : Cell) (goal : Goal) (set : ℕ) (held : Pair)
+pub resend-keeps-its-stamp : (s : Sight) (slot : InSlot) (client : Client) (cell : Cell) (goal : Goal) (set : ℕ) (held : Pair)
     → s .party .work ≡ Keeping cell goal set held → IfDone (planOf s slot (Resend client)) (λ (p : Plan). p .message .body ≡ Keep held)
 unfolding planOf resendOf resendIn
 resend-keeps-its-stamp s slot client cell goal set held w =
-    either (λ (o : Outcome). IfDone o (λ (p : Plan). p .message .body ≡ Keep held)) (s .party .stopped) _ _ (λ e. tt) (λ e. rw w refl)
+    either (λ (o : Decision). IfDone o (λ (p : Plan). p .message .body ≡ Keep held)) (s .party .stopped) _ _ (λ e. tt) (λ e. rw w refl)
 
 -- ---- the greatest pair
 
@@ -168,7 +168,7 @@ unfolding tellCounts phaseEnds keepsOf holds raised
 greatest-is-held s m t slot =
     rw (tell-counts s m t slot) (either (Holding (t .goal)) (asksEnough (s .replicas) (tellers t)) _ _ (λ e. ends (t .goal)) (λ e. told (t .goal)))
   where
-    Holding : Goal → Outcome → Type 0
+    Holding : Goal → Decision → Type 0
     Holding goal o = IfDone o (λ (p : Plan). Greatest goal (t .set) (t .held) (t .told) (heldBy (p .party .work)))
 
     q : Pair
@@ -208,16 +208,16 @@ module _ (s t : Sight) (m n : Message) (same : n .op ≡ m .op) (Spent : Work �
   unfolding current
   same-stale e c = rw (e, same) c
 
-  used-again : (one more : Outcome) → IfDone one (λ (p : Plan). Spent (p .party .work)) → (Spent (t .party .work) → more ≡ usedUp t n)
+  used-again : (one more : Decision) → IfDone one (λ (p : Plan). Spent (p .party .work)) → (Spent (t .party .work) → more ≡ usedUp t n)
       → IfDone (cond (current (s .party) m) one (usedUp s m)) (λ (p : Plan). t .party ≡ p .party → cond (current (t .party) n) more (usedUp t n) ≡ usedUp t n)
-  used-again one more u used = either (λ (r : Outcome). IfDone r Used) (current (s .party) m) one (usedUp s m) (λ c. each one u) (λ c e. rw (same-stale e c) refl)
+  used-again one more u used = either (λ (r : Decision). IfDone r Used) (current (s .party) m) one (usedUp s m) (λ c. each one u) (λ c e. rw (same-stale e c) refl)
     where
       Used : Plan → Type 0
       Used p = t .party ≡ p .party → cond (current (t .party) n) more (usedUp t n) ≡ usedUp t n
 
-      each : (r : Outcome) → IfDone r (λ (p : Plan). Spent (p .party .work)) → IfDone r Used
+      each : (r : Decision) → IfDone r (λ (p : Plan). Spent (p .party .work)) → IfDone r Used
       each (No x) v = tt
-      each (Go p) v = λ e. either (λ (r : Outcome). r ≡ usedUp t n) (current (t .party) n) more (usedUp t n) (λ c. used (rw e v)) (λ c. refl)
+      each (Go p) v = λ e. either (λ (r : Decision). r ≡ usedUp t n) (current (t .party) n) more (usedUp t n) (λ c. used (rw e v)) (λ c. refl)
 
 tell-delivered : (s : Sight) (m : Message) (q : Pair) (slot : ℕ) → m .body ≡ Tell q → planOf s (Full m) (Deliver slot) ≡ tellOf s m q
 unfolding planOf ofSlot deliverOf deliverIn
@@ -236,7 +236,7 @@ counts-replicas-not-answers s t m n i j o h = go (o .kind)
     k : ℕ
     k = m .replica .0
 
-    TellLeft : Outcome → Type 0
+    TellLeft : Decision → Type 0
     TellLeft r = IfDone r (λ (p : Plan). TellSpent k (p .party .work))
 
     tell-ended : (cell : Cell) (goal : Goal) (held : Pair) → TellLeft (phaseEnds goal s m cell held)
@@ -255,7 +255,7 @@ counts-replicas-not-answers s t m n i j o h = go (o .kind)
     tell-used q (Asking cell goal set held) u = rw u
     tell-used q (Keeping cell goal set held) u = refl
 
-    KeptLeft : Outcome → Type 0
+    KeptLeft : Decision → Type 0
     KeptLeft r = IfDone r (λ (p : Plan). KeptSpent k (p .party .work))
 
     kept-left : (w : Work) → s .party .work ≡ w → KeptLeft (keptIn w s m)

@@ -6,7 +6,7 @@ use lib.Count.{ones}
 use borrow.Author.Tests.{le-ltb}
 use Rattle.method.specs.declared.Note.the-variants.{Nothing}
 use Rattle.method.specs.declared.Plan.{Plan}
-use Rattle.method.specs.declared.Outcome.the-variants.{Go}
+use Rattle.method.specs.declared.Decision.the-variants.{Go}
 use Rattle.rack.specs.Run.{noted, freed, checked}
 
 -- a delivered slot counts as free for what its delivery sends: with one more to send than free slots it is done

@@ -9,12 +9,12 @@ use lib.IntN.{negsuc}
 use Rattle.number.specs.Value.{alternatingOf, signedOf}
 use Rattle.quorum.specs.Sets.{majority, asksEnough, within}
 use Rattle.method.specs.declared.Body.the-variants.{Keep, Kept}
-use Rattle.method.specs.declared.Held.the-variants.{Empty, Full}
+use Rattle.method.specs.declared.InSlot.the-variants.{Empty, Full}
 use Rattle.method.specs.declared.Party.{Party}
 use Rattle.method.specs.declared.Event.{Event}
 use Rattle.method.specs.declared.Event.the-variants.{StartRead, StartWrite, Deliver, Lose, Copy, Resend, Stop, Off, On, Unknown}
 use Rattle.rack.specs.declared.Made.{Made}
-use Rattle.method.specs.Plan.{partyAt}
+use Rattle.method.specs.Plan.{activeParty}
 use Rattle.rack.specs.Places.{idle}
 use Rattle.rack.specs.Sound.{sizesFit, pairFits, bodyFits, messageFits, heldFits, workFits, owes, owedBy, soundOf, owedIn}
 use Rattle.rack.specs.Run.{freshRack, madeOf, byte, eventOf}
@@ -113,16 +113,16 @@ pub not-owed-stopped : (r : ℕ) → r ≡ owedBy stopped → r ≡ 1 → ⊥
 unfolding owedBy
 not-owed-stopped r p q = omega arith
 
-pub not-free-asking : (r : ℕ) → r ≡ owedBy (partyAt 1 (told 0b001)) → r ≡ 0 → ⊥
+pub not-free-asking : (r : ℕ) → r ≡ owedBy (activeParty 1 (told 0b001)) → r ≡ 0 → ⊥
 unfolding owedBy owes
 not-free-asking r p q = omega arith
 
 -- of one that asks, one that is idle and one that is stopped, one answer is owed
-pub not-all-owe : (r : ℕ) → r ≡ owedIn 3 (partyAt 1 (told 0b001) ∷ idle ∷ stopped ∷ []) → r ≡ 3 → ⊥
+pub not-all-owe : (r : ℕ) → r ≡ owedIn 3 (activeParty 1 (told 0b001) ∷ idle ∷ stopped ∷ []) → r ≡ 3 → ⊥
 unfolding owedIn owedBy owes
 not-all-owe r p q = let e : r ≡ 1 = p in omega arith
 
-pub not-none-owes : (r : ℕ) → r ≡ owedIn 3 (partyAt 1 (told 0b001) ∷ idle ∷ stopped ∷ []) → r ≡ 0 → ⊥
+pub not-none-owes : (r : ℕ) → r ≡ owedIn 3 (activeParty 1 (told 0b001) ∷ idle ∷ stopped ∷ []) → r ≡ 0 → ⊥
 unfolding owedIn owedBy owes
 not-none-owes r p q = let e : r ≡ 1 = p in omega arith
 

@@ -4,8 +4,8 @@ use mathlib.Core.Bool.{Bool, true, false}
 use mathlib.Core.List.{List}
 use mathlib.Core.Path.{_≡_, ap, _∙_}
 use native.Mathlib.Omega.{arith}
-use Rattle.slots.specs.Free.{wordCount, slotCount, firstFree, countFree, takenAt, givenAt}
-use Rattle.slots.specs.Words.{Tied, Took}
+use Rattle.slots.specs.Free.{mapWords, slotCount, firstFree, countFree, takenAt, givenAt}
+use Rattle.slots.specs.Words.{Maps, Took}
 use Rattle.slots.specs.laws.FreeLaws.{lowest-free, lowest-least, some-free, taken-else, taken-here, count-taken}
 use Rattle.slots.specs.laws.Finding.{tied-only, taken-past, given-past}
 

@@ -14,7 +14,7 @@ use Rattle.record.specs.declared.Cell.{Cell}
 use Rattle.record.specs.declared.Entry.{Entry}
 use Rattle.number.specs.Below.{Bytes}
 use Rattle.record.specs.Entry.{upTo, fieldsAt, entryAt}
-use Rattle.record.specs.Record.{entries, faultAfter, standingAfter, before, enter, heldFrom, recordOf}
+use Rattle.record.specs.Record.{entries, faultAfter, standingAfter, before, enter, heldFrom, bytesHeld}
 use Rattle.record.specs.Examples.{sheetBytes}
 use Rattle.record.specs.laws.Sheet.{sheet-reads}
 use Rattle.law.specs.Operation.{operations}
@@ -25,7 +25,7 @@ use Rattle.pairs.specs.Pairs.{byteLimit}
 use Rattle.pairs.specs.laws.Enough.{enough}
 use Rattle.verdict.specs.declared.Verdict.{Verdict}
 use Rattle.verdict.specs.declared.Verdict.the-variants.{Lawful as saysLawful, Unlawful as saysUnlawful, Refused as saysRefused}
-use Rattle.verdict.specs.Verdict.{asksFor, askedAmong, repeats, distinctFrom, distinct, takenFor, Lowest, Judges}
+use Rattle.verdict.specs.Verdict.{asksFor, askedAmong, repeats, distinctFrom, distinct, takenFor, LowestCell, Judges}
 use Rattle.verdict.specs.Answers.{caseOf, refusalIn, entryIn, cellIn}
 use Rattle.verdict.specs.laws.OnlyOne.{one-verdict, refused-exactly}
 use Rattle.verdict.specs.laws.Sheet.{twice}
@@ -58,7 +58,7 @@ pub no-other : (s : List ℕ) → allBytes s ≡ true → (v : Verdict) → Judg
 no-other s e v p w q = one-verdict s (all-bytes s e) w v q p
 
 -- where all is about cell 2, it is the lowest that isn't lawful
-pub lowest-2 : (es : List Entry) → partOf 0 es ≡ [] → partOf 1 es ≡ [] → ¬ Lawful (operations (partOf 2 es)) → Lowest es 2
+pub lowest-2 : (es : List Entry) → partOf 0 es ≡ [] → partOf 1 es ≡ [] → ¬ Lawful (operations (partOf 2 es)) → LowestCell es 2
 lowest-2 es p q n = record { unlawful = n; below = below }
   where
     below : (d : ℕ) → d < 2 → Lawful (operations (partOf d es))
@@ -82,7 +82,7 @@ twelve-verdict = no-other sheetBytes refl saysLawful twelve-judged
 -- ---- with last byte 00: unlawful cell 2
 
 taken-stale : takenFor stale ≡ entries bad
-unfolding takenFor distinct distinctFrom repeats askedAmong asksFor recordOf heldFrom enter before faultAfter standingAfter entryAt fieldsAt andThen upTo numberAt numberOf valueOf lastOf taken alternatingOf signedOf
+unfolding takenFor distinct distinctFrom repeats askedAmong asksFor bytesHeld heldFrom enter before faultAfter standingAfter entryAt fieldsAt andThen upTo numberAt numberOf valueOf lastOf taken alternatingOf signedOf
 taken-stale = refl
 
 pub stale-judged : Judges (takenFor stale) (saysUnlawful (record { 0 = 2 }))

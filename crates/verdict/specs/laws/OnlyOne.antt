@@ -2,7 +2,7 @@
 use mathlib.Core.Path.{_≡_, refl, ap, subst}
 use mathlib.Core.List.{List, [], _∷_}
 use Rattle.record.specs.declared.Entry.{Entry}
-use Rattle.record.specs.Record.{Held, entries, fault, recordOf}
+use Rattle.record.specs.Record.{Held, entries, fault, bytesHeld}
 use Rattle.record.specs.Legal.{Legal}
 use Prim.Native.Nat.{ℕ, _+_, _<_}
 use mathlib.Core.Logic.{_↔_}
@@ -16,7 +16,7 @@ use Rattle.law.specs.Order.{Lawful}
 use Rattle.law.specs.laws.Whole.{record-locality, record-locality-16}
 use Rattle.verdict.specs.declared.Verdict.{Verdict}
 use Rattle.verdict.specs.declared.Verdict.the-variants.{Lawful as saysLawful, Unlawful as saysUnlawful, Refused as saysRefused}
-use Rattle.verdict.specs.Verdict.{repeats, distinctFrom, distinct, takenFor, Lowest, Judges}
+use Rattle.verdict.specs.Verdict.{repeats, distinctFrom, distinct, takenFor, LowestCell, Judges}
 use Rattle.verdict.specs.Answers.{caseOf, refusalIn, entryIn, cellIn}
 use Rattle.record.specs.laws.Trip.{reading-legal}
 use Rattle.verdict.specs.Same.{SameVerdict}
@@ -36,18 +36,18 @@ one-list p q = cc
 -- ---- the lowest cell
 
 -- there is one lowest cell
-pub one-lowest : (es : List Entry) (c d : ℕ) → Lowest es c → Lowest es d → c ≡ d
+pub one-lowest : (es : List Entry) (c d : ℕ) → LowestCell es c → LowestCell es d → c ≡ d
 one-lowest es c d l m = elim (decLt c d) [
   | yes b ↦ absurd (l .unlawful (m .below c b))
   | no b ↦ elim (decLt d c) [ yes g ↦ absurd (m .unlawful (l .below d g)) | no g ↦ omega (arith, b, g) ]
 ]
 
 -- a lawful record has none
-pub lawful-no-lowest : (es : List Entry) → Legal es → (c : ℕ) → Lawful (operations es) → Lowest es c → ⊥
+pub lawful-no-lowest : (es : List Entry) → Legal es → (c : ℕ) → Lawful (operations es) → LowestCell es c → ⊥
 lawful-no-lowest es h c l m = m .unlawful (record-locality es h .0 l c)
 
 -- it is one of the sixteen
-pub lowest-below : (es : List Entry) → Legal es → (c : ℕ) → Lowest es c → c < 16
+pub lowest-below : (es : List Entry) → Legal es → (c : ℕ) → LowestCell es c → c < 16
 lowest-below es h c m = elim (decLt c 16) [
   | yes b ↦ b
   | no b ↦ absurd (lawful-no-lowest es h c (record-locality-16 es h .1 (λ d l. m .below d (omega (arith, b, l)))) m)
@@ -63,7 +63,7 @@ only-one h l saysLawful (saysRefused k n) (es, (e, o)) q = no-both e q
 only-one h l (saysUnlawful c) saysLawful (es, (e, m)) (fs, (f, o)) =
     absurd (lawful-no-lowest es (l es e) (c .0) (subst (λ (xs : List Entry). Lawful (operations xs)) (one-list f e) o) m)
 only-one h l (saysUnlawful c) (saysUnlawful d) (es, (e, m)) (fs, (f, o)) =
-    let b : c .0 ≡ d .0 = one-lowest fs (c .0) (d .0) (subst (λ (xs : List Entry). Lowest xs (c .0)) (one-list e f) m) o in
+    let b : c .0 ≡ d .0 = one-lowest fs (c .0) (d .0) (subst (λ (xs : List Entry). LowestCell xs (c .0)) (one-list e f) m) o in
     ap (λ (n : ℕ). saysUnlawful (record { 0 = n })) b
 only-one h l (saysUnlawful c) (saysRefused k n) (es, (e, m)) q = no-both e q
 only-one h l (saysRefused k n) saysLawful p (fs, (f, o)) = no-both f p
@@ -99,9 +99,9 @@ distinct-same earlier (e ∷ es) n whole fs p = go (repeats earlier e) p (distin
     go false q f = f q
 
 -- what bytes are taken for is what they hold, and has no fault
-pub taken-same : (s : List ℕ) (es : List Entry) → takenFor s ≡ entries es → recordOf s ≡ entries es
+pub taken-same : (s : List ℕ) (es : List Entry) → takenFor s ≡ entries es → bytesHeld s ≡ entries es
 unfolding takenFor distinct
-taken-same s es p = go (recordOf s) p
+taken-same s es p = go (bytesHeld s) p
   where
     go : (h : Held) → distinct h ≡ entries es → h ≡ entries es
     go (entries fs) q = distinct-same [] fs 0 (entries fs) es q
@@ -121,7 +121,7 @@ module _ (s : List ℕ) (bytes : Bytes s) where
 
   -- unlawful cell c exactly when they hold entries and c is the lowest cell whose part isn't lawful
   pub bytes-unlawful-exactly : (v : Verdict) → Judges (takenFor s) v → (c : Cell)
-      → (v ≡ saysUnlawful c) ↔ ((es : List Entry) × ((takenFor s ≡ entries es) × Lowest es (c .0)))
+      → (v ≡ saysUnlawful c) ↔ ((es : List Entry) × ((takenFor s ≡ entries es) × LowestCell es (c .0)))
   bytes-unlawful-exactly v j c = (λ q. subst (Judges (takenFor s)) q j, λ o. one-verdict v (saysUnlawful c) j o)
 
 pub same-verdict : (s : List ℕ) → Bytes s → (v v′ : Verdict) → Judges (takenFor s) v → Judges (takenFor s) v′ → SameVerdict v v′
