@@ -16,7 +16,7 @@ use Rattle.number.specs.declared.Number.{Number}
 use Rattle.number.specs.declared.Number.the-variants.{Is, Refused}
 use Rattle.number.specs.declared.Put.{Put}
 use Rattle.number.specs.declared.Put.the-variants.{Next, NoRoom}
-use Rattle.record.specs.Record.{Held, entries, fault, bytesHeld, bytesOf}
+use Rattle.record.specs.Record.{Held, entries, fault, bytesHeld}
 use Rattle.number.specs.Below.{Bytes, Words}
 use Rattle.record.specs.Named.{Named}
 use Rattle.record.specs.laws.Trip.{reading-legal, record-few}
@@ -24,7 +24,7 @@ use Rattle.record.specs.laws.Refusals.{record-faults}
 use Rattle.record.specs.declared.Entry.{Entry}
 use Rattle.record.specs.declared.Answer.{Answer}
 use Rattle.record.specs.declared.Answer.the-variants.{All, Refused as Unread}
-use Rattle.rows.specs.Rows.{rowsHeld, rowsOf, readOutcome, writeOutcome}
+use Rattle.rows.specs.Rows.{rowsHeld, readOutcome, writeOutcome}
 use Rattle.rows.specs.Refusal.{Refusal}
 use Rattle.rows.specs.laws.RowLaws.{rows-length}
 use Rattle.rows.specs.laws.Trip.{rows-legal, read-took, write-took}

@@ -1,11 +1,11 @@
 -- A packed answer alone gives the caller the whole answer back, for every call and every input; and two answers that differ are packed into two numbers.
-use Prim.Native.Nat.{ℕ, _+_, _-_, _*_, _^_, _≤_, _<_}
-use mathlib.Core.Path.{_≡_, refl, ap, ap₂, sym, _∙_, subst}
-use mathlib.Core.Bool.{cond, true, false}
+use Prim.Native.Nat.{ℕ, _+_, _-_, _*_, _^_, _<_}
+use mathlib.Core.Path.{_≡_, refl, ap, sym, _∙_, subst}
+use mathlib.Core.Bool.{cond, false}
 use mathlib.Core.List.{List}
 use native.Mathlib.Omega.{arith}
 use lib.Dec.{eqb}
-use borrow.Author.Tests.{eq-eqb, ne-eqb}
+use borrow.Author.Tests.{ne-eqb}
 use Rattle.number.specs.Number.{numberAt, putAnswer}
 use Rattle.number.specs.Answers.{refusalOf, numberIn, nextIn, putRefusalOf, putNextIn}
 use Rattle.number.specs.declared.Number.{Number}

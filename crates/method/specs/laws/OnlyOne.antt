@@ -19,7 +19,6 @@ use Rattle.method.specs.declared.Event.{Event}
 use Rattle.method.specs.declared.Event.the-variants.{StartRead, Deliver, Resend, Off}
 use Rattle.method.specs.declared.Note.the-variants.{Nothing, Asked, Ended}
 use Rattle.method.specs.declared.Decision.{Decision}
-use Rattle.method.specs.declared.Decision.the-variants.{No}
 use Rattle.method.specs.Plan.{started, startIn, startOf, keepOf, current, keepsOf, phaseEnds, tellCounts, tellIn, tellOf, deliverIn, deliverOf, resendIn, resendOf, ofSlot}
 use Rattle.method.specs.Plan.{messageOf, activeParty, noMessage, powered, offOf, planOf}
 use Rattle.method.specs.Answers.{refusalIn, partyAfter, pairAfter, powerAfter, clearIn, noteIn, messageIn, sentTo}

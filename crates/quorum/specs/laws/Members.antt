@@ -9,10 +9,11 @@ use lib.ListN.{length}
 use lib.Count.{ones, ones-step}
 use lib.Dec.{eqb}
 use lib.Pow.{shr-shr, shr-lt}
-use borrow.Author.Tests.{eqb-true, eqb-false, lt-ltb}
-use Rattle.quorum.specs.Sets.{setBits, hasReplica, countOf, everyReplica, keepIf, membersFrom, membersOf}
+use borrow.Author.Tests.{eqb-true, eqb-false}
+use Rattle.quorum.specs.Sets.{hasReplica, countOf, keepIf, membersFrom, membersOf}
 use Rattle.quorum.specs.laws.Bits.{bit-is, has-one, has-zero}
-use Rattle.quorum.specs.laws.SetLaws.{has-below, has-every}
+use Rattle.quorum.specs.laws.SetLaws.{has-below}
+use Rattle.quorum.specs.Shared.{Rising}
 
 -- ---- length
 
@@ -83,11 +84,6 @@ pub has-members : (n s k : ℕ) → s < 2 ^ n → hasReplica s k ≡ true → Li
 has-members n s k h e = from-member n 0 s k (omega arith) (omega (arith, has-below n s k h e)) e
 
 -- ---- order
-
--- each is below all that follow it
-abbrev pub Rising : List ℕ → Type 0
-Rising [] = Unit {0}
-Rising (k ∷ ks) = ((j : ℕ) → List·Memᴰ j ks → k < j) × Rising ks
 
 rising-from : (n k s : ℕ) → Rising (membersFrom n k s)
 unfolding membersFrom

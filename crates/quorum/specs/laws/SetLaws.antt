@@ -4,8 +4,7 @@ use mathlib.Core.Path.{_≡_, refl, ap, sym, _∙_}
 use mathlib.Core.Bool.{Bool, true, false, cond, not, _&&_, _||_}
 use mathlib.Core.Logic.{_⊎_, inl, inr}
 use native.Mathlib.Omega.{arith}
-use native.Mathlib.Nat.{mod-eq-of-lt}
-use lib.Bits.{bitOr, bitAnd, or-add-and, and-comm, and-mask, and-le-l, or-lt}
+use lib.Bits.{bitOr, bitAnd, or-add-and, and-le-l, or-lt}
 use lib.Count.{ones, ones-le, ones-ones}
 use lib.Dec.{ltb, eqb}
 use lib.Pow.{pow-pos, pow-lt, ones-lt}
@@ -14,7 +13,7 @@ use Rattle.quorum.specs.Sets.{setBits, hasReplica, withReplica, countOf,
 use Rattle.quorum.specs.laws.Bits.{bit, bit-most, bit-none, has-one, has-zero, one-has, zero-has, or-bit, and-bit, left-bit, pow-same, pow-other, and-fresh, and-there}
 use Rattle.quorum.specs.laws.Bits.{all-below, bit-below, same-bits, ones-both, ones-left, ones-one, some-bit}
 use Rattle.quorum.specs.laws.FloatingPins.{half-is-not-enough}
-use Rattle.quorum.specs.Shared.{Shared}
+use Rattle.quorum.specs.Shared.{Shared, Least}
 
 -- the test of a set of n replicas, and what it tells
 pub within-below : (n s : ℕ) → within n s ≡ true → s < 2 ^ n
@@ -166,11 +165,6 @@ meet n a b ha hb ea eb =
     meet-sizes n (countOf a) (countOf b) a b (omega (arith, majority-count n a ea, majority-count n b eb)) ha hb (omega arith) (omega arith)
 
 -- ---- what is enough
-
--- a count of k is enough for a majority of n, and less is not
-pub record Least (n k : ℕ) : Type 0 where
-  pub enough : (s : ℕ) → k ≤ countOf s → majority n s ≡ true
-  pub fewer : (s : ℕ) → countOf s < k → majority n s ≡ false
 
 pub least : (n : ℕ) → Least n (n / 2 + 1)
 least n = record { enough = λ s h. count-majority n s (omega arith); fewer = λ s h. count-minority n s (omega arith) }

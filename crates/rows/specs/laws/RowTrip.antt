@@ -9,7 +9,7 @@ use lib.Seq.{getD-drop}
 use lib.Dec.{ltb}
 use borrow.Author.Tests.{ltb-true, ltb-false}
 use Rattle.number.specs.Value.{alternatingOf}
-use Rattle.number.specs.laws.ValueLaws.{signed-alternating, alternating-below, signed-fits}
+use Rattle.number.specs.laws.ValueLaws.{signed-alternating, signed-fits}
 use Rattle.record.specs.declared.Entry.{Entry}
 use Rattle.record.specs.declared.Entry.the-variants.{ReadAsked, WriteAsked, Told, Done}
 use Rattle.record.specs.declared.Found.the-variants.{At}

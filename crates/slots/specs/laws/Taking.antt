@@ -1,13 +1,12 @@
 -- What taking a slot and giving one back did, from the contracts of take and give.
-use Prim.Native.Nat.{ℕ, _+_, _≤_, _<_}
+use Prim.Native.Nat.{ℕ, _<_}
 use mathlib.Core.Bool.{Bool, true, false}
 use mathlib.Core.List.{List}
 use mathlib.Core.Path.{_≡_, ap, _∙_}
 use native.Mathlib.Omega.{arith}
-use Rattle.slots.specs.Free.{mapWords, slotCount, firstFree, countFree, takenAt, givenAt}
-use Rattle.slots.specs.Words.{Maps, Took}
-use Rattle.slots.specs.laws.FreeLaws.{lowest-free, lowest-least, some-free, taken-else, taken-here, count-taken}
-use Rattle.slots.specs.laws.Finding.{tied-only, taken-past, given-past}
+use Rattle.slots.specs.Free.{slotCount, firstFree, takenAt}
+use Rattle.slots.specs.Words.{Took}
+use Rattle.slots.specs.laws.FreeLaws.{lowest-free, lowest-least, taken-else, taken-here}
 
 -- what taking did, slot by slot: it was free, none below it was, it is no longer, and no other changed
 pub record TookSlot (f g : ℕ → Bool) (r : ℕ) : Type 0 where
