@@ -1,4 +1,5 @@
 -- What has to be believed: definitions.
+pub mod Holding
 pub mod Plan
 pub mod About
 pub mod Method

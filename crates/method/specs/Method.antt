@@ -7,12 +7,11 @@ use mathlib.Core.Bool.{true, false}
 use lib.IntN.{ℤ}
 use Rattle.record.specs.declared.Client.{Client}
 use Rattle.record.specs.declared.Cell.{Cell}
-use Rattle.record.specs.declared.Entry.{Entry}
-use Rattle.record.specs.declared.Entry.the-variants.{ReadAsked, WriteAsked, Told, Done}
 use Rattle.quorum.specs.Sets.{hasReplica, withReplica, asksEnough, keepsEnough}
 use Rattle.stamps.specs.declared.Stamp.{Stamp}
 use Rattle.stamps.specs.declared.Pair.{Pair}
-use Rattle.stamps.specs.Stamp.{stampLess, freshPair}
+use Rattle.stamps.specs.Stamp.{raised, freshPair}
+use Rattle.method.specs.Holding.{holds, firstEntry, lastEntry}
 use Rattle.method.specs.declared.Body.{Body}
 use Rattle.method.specs.declared.Body.the-variants.{Ask, Tell, Keep, Kept}
 use Rattle.method.specs.declared.Message.{Message}
@@ -28,16 +27,6 @@ use Rattle.method.specs.declared.Plan.{Plan}
 
 -- ---- pairs
 
--- own after given came: "takes stamp and value if the stamp is greater than its own"
-pub data Raised (own given after : Pair) : Type 0 where
-  taken : stampLess (own .stamp) (given .stamp) ≡ true → after ≡ given → Raised own given after
-  left : stampLess (own .stamp) (given .stamp) ≡ false → after ≡ own → Raised own given after
-
--- the pair held after a tell: "the first tell of a phase (the set was empty) is held whole; a later one replaces it only with a greater stamp"
-pub data Holds (set : ℕ) (held told after : Pair) : Type 0 where
-  first : set ≡ 0 → after ≡ told → Holds set held told after
-  later : set ≢ 0 → Raised held told after → Holds set held told after
-
 -- the stamp t of a write of client c that holds the stamp s: (held number + 1, own rank)
 pub record Follows (c : ℕ) (s t : Stamp) : Type 0 where
   pub number : t .number ≡ s .number + 1
@@ -52,18 +41,6 @@ pub record Written (client : ℕ) (v : ℤ) (held chosen : Pair) : Type 0 where
 abbrev pub Chosen : Goal → ℕ → Pair → Pair → Type 0
 Chosen Read client held chosen = chosen ≡ held
 Chosen (Write v) client held chosen = Written client v held chosen
-
--- ---- entries
-
--- the entry of a start: read asked, or write asked with its value
-abbrev pub firstEntry : Goal → Client → Cell → Entry
-firstEntry Read client cell = ReadAsked client cell
-firstEntry (Write v) client cell = WriteAsked client cell v
-
--- "a read gives the held value"
-abbrev pub endEntry : Goal → Client → Pair → Entry
-endEntry Read client held = Told client (held .value)
-endEntry (Write v) client held = Done client
 
 -- ---- messages
 
@@ -134,7 +111,7 @@ pub record Takes (s : Sight) (client : ℕ) (held : InSlot) (p : Plan) : Type 0 
   pub given : Pair
   pub got : Got client held message (Keep given)
   pub still : Still s p
-  pub pair : Raised (s .pair) given (p .pair)
+  pub pair : p .pair ≡ raised (s .pair) given
   pub says : Says p client (message .cell .0) (message .op) Kept
   pub to : p .to ≡ withReplica 0 (message .replica .0)
 
@@ -151,7 +128,7 @@ pub record Heard (s : Sight) (client : ℕ) (held : InSlot) : Type 0 where
   pub before : s .party .work ≡ Asking cell goal set pair
   pub new : hasReplica set (message .replica .0) ≡ false
   pub after : Pair
-  pub holds : Holds set pair told after
+  pub heard : after ≡ holds set pair told
 
 -- the set with the replica that told
 abbrev pub heardSet : {s : Sight} {client : ℕ} {held : InSlot} → Heard s client held → ℕ
@@ -210,7 +187,7 @@ pub record Ends (s : Sight) (client : ℕ) (held : InSlot) (p : Plan) : Type 0 w
   pub op : p .party .op ≡ s .party .op
   pub work : p .party .work ≡ Idle
   pub pair : p .pair ≡ s .pair
-  pub note : p .note ≡ Ended (endEntry (counted .goal) (record { 0 = client }) (counted .pair))
+  pub note : p .note ≡ Ended (lastEntry (counted .goal) (record { 0 = client }) (counted .pair))
   pub to : p .to ≡ 0
 
 -- What an event does that saw s and the slot, and is about this client.

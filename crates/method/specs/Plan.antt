@@ -8,10 +8,11 @@ use Rattle.record.specs.declared.Client.{Client}
 use Rattle.record.specs.declared.Replica.{Replica}
 use Rattle.record.specs.declared.Cell.{Cell}
 use Rattle.record.specs.declared.Entry.{Entry}
-use Rattle.record.specs.declared.Entry.the-variants.{ReadAsked, WriteAsked, Told, Done}
+use Rattle.record.specs.declared.Entry.the-variants.{ReadAsked, WriteAsked}
 use Rattle.quorum.specs.Sets.{hasReplica, withReplica, asksEnough, keepsEnough, withoutReplica, everyReplica, others}
 use Rattle.stamps.specs.declared.Pair.{Pair}
 use Rattle.stamps.specs.Stamp.{freshPair, raised}
+use Rattle.method.specs.Holding.{holds, lastEntry}
 use Rattle.method.specs.declared.Body.{Body}
 use Rattle.method.specs.declared.Body.the-variants.{Ask, Tell, Keep, Kept}
 use Rattle.method.specs.declared.Message.{Message}
@@ -96,11 +97,6 @@ keepOf s m q = cond (hasReplica (s .power) (m .replica .0)) (answered s (raised 
 unfoldable pub current : Party → Message → Bool
 current party m = not (party .stopped) && eqb (party .op) (m .op)
 
--- the entry that ends an operation: a read gives the held value
-unfoldable pub lastEntry : Goal → Client → Pair → Entry
-lastEntry Read client held = Told client (held .value)
-lastEntry (Write v) client held = Done client
-
 -- the set is emptied and keep goes to every replica, with the pair that is then held
 unfoldable pub keepsOf : Sight → Message → Cell → Goal → Pair → Decision
 keepsOf s m cell goal held =
@@ -116,10 +112,6 @@ unfoldable pub phaseEnds : Goal → Sight → Message → Cell → Pair → Deci
 phaseEnds Read s m cell held = keepsOf s m cell Read held
 phaseEnds (Write v) s m cell held =
     cond (eqb (held .stamp .number) 4294967295) (No 12) (keepsOf s m cell (Write v) (written (m .client) v held))
-
--- the first tell of a phase (the set was empty) is held whole; a later one replaces it only with a greater stamp
-unfoldable pub holds : ℕ → Pair → Pair → Pair
-holds set held q = cond (eqb set 0) q (raised held q)
 
 -- a tell that counts: at a majority the phase ends in that same delivery
 unfoldable pub tellCounts : Sight → Message → Cell → Goal → ℕ → Pair → Decision

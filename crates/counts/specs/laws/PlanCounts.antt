@@ -33,7 +33,8 @@ use Rattle.method.specs.declared.Plan.{Plan}
 use Rattle.method.specs.declared.Decision.{Decision}
 use Rattle.method.specs.declared.Decision.the-variants.{No, Go}
 use Rattle.method.specs.Plan.{messageOf, activeParty, planned, usedUp, answered, started, startIn, startOf, askOf, keepOf, current, keepsOf, phaseEnds, tellCounts, tellIn, tellOf}
-use Rattle.method.specs.Plan.{lastEntry, keptCounts, keptIn, keptOf, deliverIn, deliverOf, copyOf, resendIn, resendOf, stopOf, powered, offOf, onOf, ofSlot, planOf}
+use Rattle.method.specs.Plan.{keptCounts, keptIn, keptOf, deliverIn, deliverOf, copyOf, resendIn, resendOf, stopOf, powered, offOf, onOf, ofSlot, planOf}
+use Rattle.method.specs.Holding.{lastEntry}
 use Rattle.rack.specs.Places.{roomOf}
 use Rattle.rack.specs.Sound.{heldFits, owes, owed, soundOf}
 use Rattle.method.specs.About.{clientIn, clientOf}

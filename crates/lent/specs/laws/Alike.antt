@@ -34,7 +34,8 @@ use Rattle.method.specs.declared.Note.the-variants.{Nothing, Asked, Ended}
 use Rattle.method.specs.declared.Plan.{Plan}
 use Rattle.method.specs.declared.Decision.{Decision}
 use Rattle.method.specs.declared.Decision.the-variants.{No, Go}
-use Rattle.method.specs.Plan.{startIn, startOf, askOf, keepOf, current, keepsOf, phaseEnds, holds, tellCounts, tellIn, tellOf, keptIn, keptOf, deliverIn, deliverOf, copyOf}
+use Rattle.method.specs.Plan.{startIn, startOf, askOf, keepOf, current, keepsOf, phaseEnds, tellCounts, tellIn, tellOf, keptIn, keptOf, deliverIn, deliverOf, copyOf}
+use Rattle.method.specs.Holding.{holds}
 use Rattle.method.specs.Plan.{resendIn, resendOf, stopOf, powered, offOf, onOf, ofSlot, planOf}
 use Rattle.method.specs.About.{clientOf}
 use Rattle.rack.specs.declared.Sizes.{Sizes}

@@ -28,7 +28,8 @@ use Rattle.method.specs.declared.Event.the-variants.{Deliver, Resend}
 use Rattle.method.specs.declared.Plan.{Plan}
 use Rattle.method.specs.declared.Decision.{Decision}
 use Rattle.method.specs.declared.Decision.the-variants.{No, Go}
-use Rattle.method.specs.Plan.{usedUp, askOf, keepOf, current, keepsOf, written, phaseEnds, holds, tellCounts, tellIn, tellOf, keptCounts, keptIn, keptOf, deliverIn}
+use Rattle.method.specs.Plan.{usedUp, askOf, keepOf, current, keepsOf, written, phaseEnds, tellCounts, tellIn, tellOf, keptCounts, keptIn, keptOf, deliverIn}
+use Rattle.method.specs.Holding.{holds}
 use Rattle.method.specs.Plan.{deliverOf, resendIn, resendOf, ofSlot, planOf}
 use Rattle.method.specs.Pins.{IsDone, IfDone, ToReplica, Answers, SameKind, OneMore, Counting, tellers, AsksOn, KeepsFirst, heldBy, Greatest}
 use Rattle.method.specs.Pins.SameKind.{tells, kepts}

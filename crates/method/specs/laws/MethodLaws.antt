@@ -24,33 +24,14 @@ use Rattle.method.specs.declared.Event.the-variants.{StartRead, StartWri
 use Rattle.method.specs.declared.Plan.{Plan}
 use Rattle.method.specs.declared.Decision.{Decision}
 use Rattle.method.specs.declared.Decision.the-variants.{No, Go}
-use Rattle.method.specs.Plan.{usedUp, started, startIn, startOf, askOf, keepOf, current, keepsOf, written, phaseEnds, holds, tellCounts, tellIn, tellOf, lastEntry}
+use Rattle.method.specs.Plan.{usedUp, started, startIn, startOf, askOf, keepOf, current, keepsOf, written, phaseEnds, tellCounts, tellIn, tellOf}
+use Rattle.method.specs.Holding.{holds, firstEntry, lastEntry}
 use Rattle.method.specs.Plan.{keptCounts, keptIn, keptOf, deliverIn, deliverOf, copyOf, resendIn, resendOf, stopOf, powered, offOf, onOf, ofSlot, planOf}
 use Rattle.method.specs.About.{clientIn, clientOf}
 use Rattle.method.specs.laws.Tests.{and-right, either}
-use Rattle.method.specs.Method.{Raised, Holds, Chosen, firstEntry, endEntry, Heard, Counted, Does}
-use Rattle.method.specs.Method.Raised.{taken, left}
-use Rattle.method.specs.Method.Holds.{first, later}
+use Rattle.method.specs.Method.{Chosen, Heard, Counted, Does}
 use Rattle.method.specs.Method.Repeats.{none, copy, again}
 use Rattle.method.specs.Method.Does.{rests, starts, tells, takes, hears, chooses, counts, ends}
-
--- ---- pairs
-
-raised-is : (own given : Pair) → Raised own given (raised own given)
-unfolding raised
-raised-is own given = go (stampLess (own .stamp) (given .stamp)) refl
-  where
-    go : (t : Bool) → stampLess (own .stamp) (given .stamp) ≡ t → Raised own given (cond t given own)
-    go true e = taken e refl
-    go false e = left e refl
-
-holds-is : (set : ℕ) (held told : Pair) → Holds set held told (holds set held told)
-unfolding holds
-holds-is set held told = go (eqb set 0) refl
-  where
-    go : (t : Bool) → eqb set 0 ≡ t → Holds set held told (cond t told (raised held told))
-    go true e = first (eqb-true set 0 e) refl
-    go false e = later (eqb-false set 0 e) (raised-is held told)
 
 -- ---- outcomes
 
@@ -119,7 +100,7 @@ module _ (s : Sight) where
           given = q;
           got = record { here = refl; client = refl; body = b };
           still = record { op = refl; work = refl; note = refl };
-          pair = raised-is (s .pair) q;
+          pair = refl;
           says = record { client = refl; cell = refl; op = refl; body = refl };
           to = refl;
         }))
@@ -187,22 +168,17 @@ module _ (s : Sight) where
               before = e;
               new = z;
               after = holds set held q;
-              holds = holds-is set held q;
+              heard = refl;
             }))
 
     -- ---- a kept
-
-    last-is : (goal : Goal) (held : Pair) → lastEntry goal (m .client) held ≡ endEntry goal (m .client) held
-    unfolding lastEntry
-    last-is Read held = refl
-    last-is (Write v) held = refl
 
     kept-counts-does : (h : Counted s (m .client .0) (Full m))
         → It (keptCounts s m (h .cell) (h .goal) (withReplica (h .set) (h .message .replica .0)) (h .pair))
     unfolding keptCounts
     kept-counts-does h =
         either It (keepsEnough (s .replicas) (withReplica (h .set) (h .message .replica .0))) _ _
-        (λ e. ends (record { counted = h; enough = e; op = refl; work = refl; pair = refl; note = rw (last-is (h .goal) (h .pair)); to = refl }))
+        (λ e. ends (record { counted = h; enough = e; op = refl; work = refl; pair = refl; note = refl; to = refl }))
         (λ e. counts (record { counted = h; op = refl; work = refl; pair = refl; note = refl; to = refl }))
 
     kept-does : m .body ≡ Kept → It (keptOf s m)

@@ -1,7 +1,7 @@
 -- `plan::hold` meets its contract.
 use borrow.Author.Needs.{needs}
 use borrow.Author.Tests.{eq-eqb, ne-eqb}
-use Rattle.method.specs.Plan.{holds}
+use Rattle.method.specs.Holding.{holds}
 use Rattle.plan.proofs.hold.Statement.{statement}
 use Rattle.plan.proofs.hold.Tie as tie
 

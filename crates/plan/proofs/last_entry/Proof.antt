@@ -2,7 +2,7 @@
 use borrow.Author.Needs.{needs, sfits-of}
 use mir.Facts.{toZ-ofZ}
 use mir.Syntax.{w32}
-use Rattle.method.specs.Plan.{lastEntry}
+use Rattle.method.specs.Holding.{lastEntry}
 use Rattle.plan.proofs.last_entry.Statement.{statement}
 use Rattle.plan.proofs.last_entry.Tie as tie
 

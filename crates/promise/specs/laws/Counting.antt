@@ -23,7 +23,8 @@ use Rattle.protocol.specs.Message.{Kept as Has}
 use Rattle.protocol.specs.Move.{count, finish, counted, ended, changed}
 use Rattle.promise.specs.Setting.{settingOf}
 use Rattle.promise.specs.laws.SettingLaws.{keep-enough}
-use Rattle.method.specs.Method.{endEntry, Counted, countedSet, Counts, Ends}
+use Rattle.method.specs.Method.{Counted, countedSet, Counts, Ends}
+use Rattle.method.specs.Holding.{lastEntry}
 use Rattle.promise.specs.Tie.{openAt, Past, Stands, At, opOf, Book, Tie}
 use Rattle.promise.specs.laws.Record.{none-added, ended-added, record-length, record-ended, operations-after, book-end}
 use Rattle.promise.specs.laws.Clients.{stands-on, idle-now}
@@ -140,7 +141,7 @@ module _ (r : Rack) (e : Event) (p : Plan) (v : View) (name : ℕ → ℕ → �
       m = ending h (q .enough)
 
       entry : Entry
-      entry = endEntry (h .goal) (record { 0 = client }) (h .pair)
+      entry = lastEntry (h .goal) (record { 0 = client }) (h .pair)
 
       after : operations (recordOf (appliedOf r e p)) ≡ note (v .now) entry (operations (recordOf r))
       after =

@@ -84,7 +84,7 @@ module _ (r : Rack) (e : Event) (p : Plan) (v : View) (name : ℕ → ℕ → �
         moved S v (t .reached) (hear o (h .message .replica .0) (pairOf (h .told))) (rw (stood .0) refl, means) o _ told (v .now) refl
         (ap (λ (a : Op). heard S a (h .message .replica .0) (pairOf (h .told))) (stood .0)
         ∙ ap (openWith 1 o client (h .cell) (h .goal) (heardSet h))
-        (holds-seen o client (h .cell) (h .goal) (h .set) (h .pair) (h .told) (h .after) held-rank told-rank (h .holds)))
+        (holds-seen o client (h .cell) (h .goal) (h .set) (h .pair) (h .told) (h .after) held-rank told-rank (h .heard)))
 
     -- ---- enough have told
 
@@ -106,7 +106,7 @@ module _ (r : Rack) (e : Event) (p : Plan) (v : View) (name : ℕ → ℕ → �
         (ap (keeping S) (hearing .here)
         ∙ ap (openWith 2 o client (h .cell) (h .goal) 0)
         (chosen-seen (r .sizes .replicas) o client (h .cell) (h .goal) (heardSet h) (h .after) chosen
-        (holds-rank (h .set) (h .pair) (h .told) (h .after) held-rank told-rank (h .holds)) k)))
+        (holds-rank (h .set) (h .pair) (h .told) (h .after) held-rank told-rank (h .heard)) k)))
 
   -- ---- the ask phase goes on
 

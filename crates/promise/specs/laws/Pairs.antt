@@ -1,24 +1,25 @@
 -- The method's choices between pairs are those of the view.
 use Prim.Native.Nat.{ℕ}
-use mathlib.Core.Path.{_≡_, sym, _∙_, ap}
+use mathlib.Core.Path.{_≡_, refl, sym, _∙_, ap}
 use mathlib.Core.Logic.{_⊎_, ⊎-elim}
 use mathlib.Core.Bool.{Bool, true, false, cond, _||_}
 use lib.IntN.{ℤ}
-use borrow.Author.Tests.{eq-eqb, ne-eqb}
+use lib.Dec.{eqb}
+use borrow.Author.Tests.{eqb-false}
 use Rattle.record.specs.declared.Cell.{Cell}
 use Rattle.stamps.specs.declared.Pair.{Pair}
-use Rattle.stamps.specs.Stamp.{stampLess}
+use Rattle.stamps.specs.Stamp.{stampLess, raised as greater}
 use Rattle.stamps.specs.StampOrder.{Ranked, stampOf}
 use Rattle.stamps.specs.laws.StampOrderLaws.{stamp-order}
+use Rattle.method.specs.laws.Tests.{whichever}
 use Rattle.method.specs.declared.Goal.{Goal}
 use Rattle.method.specs.declared.Goal.the-variants.{Read, Write}
 use Rattle.protocol.specs.View.{Pair as Seen}
 use Rattle.protocol.specs.Move.{newer, heldOf, chosenOf, raised}
 use Rattle.promise.specs.Setting.{settingOf}
 use Rattle.promise.specs.laws.SettingLaws.{next-stamp}
-use Rattle.method.specs.Method.{Raised, Holds, Written, Chosen}
-use Rattle.method.specs.Method.Raised.{taken, left}
-use Rattle.method.specs.Method.Holds.{first, later}
+use Rattle.method.specs.Holding.{holds}
+use Rattle.method.specs.Method.{Written, Chosen}
 use Rattle.promise.specs.Tie.{pairOf, openAt}
 
 -- a stamp is greater where the view's is
@@ -26,26 +27,39 @@ newer-is : (own given : Pair) → Ranked (own .stamp) → Ranked (given .stamp) 
     → newer (pairOf own) (pairOf given) ≡ t
 newer-is own given ho hg t e = sym (stamp-order (own .stamp) (given .stamp) ho hg) ∙ e
 
-pub raised-seen : (own given after : Pair) → Ranked (own .stamp) → Ranked (given .stamp) → Raised own given after → raised (pairOf own) (pairOf given) ≡ pairOf after
-raised-seen own given after ho hg (taken e q) = rw (newer-is own given ho hg true e, q)
-raised-seen own given after ho hg (left e q) = rw (newer-is own given ho hg false e, q)
+pub raised-seen : (own given after : Pair) → Ranked (own .stamp) → Ranked (given .stamp) → after ≡ greater own given
+    → raised (pairOf own) (pairOf given) ≡ pairOf after
+unfolding greater
+raised-seen own given after ho hg q = go (stampLess (own .stamp) (given .stamp)) refl q
+  where
+    go : (t : Bool) → stampLess (own .stamp) (given .stamp) ≡ t → after ≡ cond t given own → raised (pairOf own) (pairOf given) ≡ pairOf after
+    go true e q = rw (newer-is own given ho hg true e, q)
+    go false e q = rw (newer-is own given ho hg false e, q)
 
 -- what an asking operation holds after a tell
 pub holds-seen : (o c : ℕ) (cell : Cell) (goal : Goal) (set : ℕ) (held told after : Pair) → (set ≡ 0) ⊎ Ranked (held .stamp) → Ranked (told .stamp)
-    → Holds set held told after → heldOf (openAt 1 o c cell goal set held) (pairOf told) ≡ pairOf after
-holds-seen o c cell goal set held told after hh ht (first e q) = rw (eq-eqb set 0 e, q)
-holds-seen o c cell goal set held told after hh ht (later d q) =
-    ap (λ (t : Bool). cond (t || newer (pairOf held) (pairOf told)) (pairOf told) (pairOf held)) (ne-eqb set 0 d)
-    ∙ ⊎-elim (λ (e : set ≡ 0). absurd (d e)) (λ h. raised-seen held told after h ht q) hh
+    → after ≡ holds set held told → heldOf (openAt 1 o c cell goal set held) (pairOf told) ≡ pairOf after
+unfolding holds
+holds-seen o c cell goal set held told after hh ht q = go (eqb set 0) refl q
+  where
+    go : (t : Bool) → eqb set 0 ≡ t → after ≡ cond t told (greater held told) → heldOf (openAt 1 o c cell goal set held) (pairOf told) ≡ pairOf after
+    go true e q = rw (e, q)
+    go false e q =
+        ap (λ (t : Bool). cond (t || newer (pairOf held) (pairOf told)) (pairOf told) (pairOf held)) e
+        ∙ ⊎-elim (λ (z : set ≡ 0). absurd (eqb-false set 0 e z)) (λ h. raised-seen held told after h ht q) hh
 
 -- its rank is one of theirs
-raised-rank : (own given after : Pair) → Ranked (own .stamp) → Ranked (given .stamp) → Raised own given after → Ranked (after .stamp)
-raised-rank own given after ho hg (taken e q) = rw q hg
-raised-rank own given after ho hg (left e q) = rw q ho
+raised-rank : (own given after : Pair) → Ranked (own .stamp) → Ranked (given .stamp) → after ≡ greater own given → Ranked (after .stamp)
+unfolding greater
+raised-rank own given after ho hg q = rw q (whichever (λ (p : Pair). Ranked (p .stamp)) (stampLess (own .stamp) (given .stamp)) given own hg ho)
 
-pub holds-rank : (set : ℕ) (held told after : Pair) → (set ≡ 0) ⊎ Ranked (held .stamp) → Ranked (told .stamp) → Holds set held told after → Ranked (after .stamp)
-holds-rank set held told after hh ht (first e q) = rw q ht
-holds-rank set held told after hh ht (later d q) = ⊎-elim (λ (e : set ≡ 0). absurd (d e)) (λ h. raised-rank held told after h ht q) hh
+pub holds-rank : (set : ℕ) (held told after : Pair) → (set ≡ 0) ⊎ Ranked (held .stamp) → Ranked (told .stamp) → after ≡ holds set held told → Ranked (after .stamp)
+unfolding holds
+holds-rank set held told after hh ht q = go (eqb set 0) refl q
+  where
+    go : (t : Bool) → eqb set 0 ≡ t → after ≡ cond t told (greater held told) → Ranked (after .stamp)
+    go true e q = rw q ht
+    go false e q = ⊎-elim (λ (z : set ≡ 0). absurd (eqb-false set 0 e z)) (λ h. raised-rank held told after h ht q) hh
 
 -- what it chooses
 written-seen : (n c : ℕ) (v : ℤ) (held chosen : Pair) → Ranked (held .stamp) → Written c v held chosen

@@ -31,7 +31,7 @@ use Rattle.rack.specs.Places.{recordOf}
 use Rattle.rack.specs.Run.{recorded, entriesIn, appliedOf}
 use Rattle.protocol.specs.View.{Op}
 use Rattle.protocol.specs.Move.{ended}
-use Rattle.method.specs.Method.{firstEntry, endEntry}
+use Rattle.method.specs.Holding.{firstEntry, lastEntry}
 use Rattle.promise.specs.Tie.{Past, openAt, shown, Book}
 
 -- ---- entries of a rack
@@ -143,8 +143,8 @@ module _ (f g : ℕ → Op) (o : ℕ) (other : (i : ℕ) → i ≢ o → g i ≡
 
   -- it ends, with entry t
   pub book-end : (c t : ℕ) (cell : Cell) (goal : Goal) (set : ℕ) (held : Pair) → f o ≡ openAt 2 o c cell goal set held
-      → g o ≡ ended (openAt 2 o c cell goal set held) t → ((i : ℕ) → i ≢ o → Past f c i) → Book g (note t (endEntry goal (record { 0 = c }) held) s)
-  unfolding note
+      → g o ≡ ended (openAt 2 o c cell goal set held) t → ((i : ℕ) → i ≢ o → Past f c i) → Book g (note t (lastEntry goal (record { 0 = c }) held) s)
+  unfolding note lastEntry
   book-end c t cell goal set held ef eg past = rw (noted goal) after
     where
       given : Goal → ℤ → ℤ
@@ -154,7 +154,7 @@ module _ (f g : ℕ → Op) (o : ℕ) (other : (i : ℕ) → i ≢ o → g i ≡
       close : Operation → Operation
       close = ending t c (given goal)
 
-      noted : (k : Goal) → note t (endEntry k (record { 0 = c }) held) s ≡ map (ending t c (given k)) s
+      noted : (k : Goal) → note t (lastEntry k (record { 0 = c }) held) s ≡ map (ending t c (given k)) s
       noted Read = refl
       noted (Write v) = refl
 

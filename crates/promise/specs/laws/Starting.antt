@@ -24,7 +24,8 @@ use Rattle.protocol.specs.View.{Setting, Op, View}
 use Rattle.protocol.specs.Move.{start, changed}
 use Rattle.promise.specs.laws.SettingLaws.{client-rank}
 use Rattle.promise.specs.Setting.{settingOf}
-use Rattle.method.specs.Method.{firstEntry, Starts}
+use Rattle.method.specs.Method.{Starts}
+use Rattle.method.specs.Holding.{firstEntry}
 use Rattle.promise.specs.Tie.{writes, valueOf, openAt, Past, At, Means, opOf, Book, Tie}
 use Rattle.promise.specs.laws.Record.{asked-added, record-length, record-asked, operations-after, begun-below, book-start}
 use Rattle.promise.specs.laws.Clients.{at-other, stands-on}

@@ -34,7 +34,8 @@ use Rattle.method.specs.declared.Note.the-variants.{Nothing, Asked, Ended}
 use Rattle.method.specs.declared.Plan.{Plan}
 use Rattle.method.specs.declared.Decision.{Decision}
 use Rattle.method.specs.declared.Decision.the-variants.{No, Go}
-use Rattle.method.specs.Plan.{messageOf, planned, usedUp, answered, started, startIn, startOf, askOf, keepOf, current, keepsOf, written, phaseEnds, holds, tellCounts, tellIn}
+use Rattle.method.specs.Plan.{messageOf, planned, usedUp, answered, started, startIn, startOf, askOf, keepOf, current, keepsOf, written, phaseEnds, tellCounts, tellIn}
+use Rattle.method.specs.Holding.{holds}
 use Rattle.method.specs.Plan.{tellOf, keptCounts, keptIn, keptOf, deliverIn, deliverOf, copyOf, resendIn, resendOf, stopOf, powered, offOf, onOf, ofSlot, planOf}
 use Rattle.rack.specs.Places.{isEmpty}
 use Rattle.rack.specs.Sound.{pairFits, bodyFits, messageFits, heldFits, workFits, owes, owedBy}

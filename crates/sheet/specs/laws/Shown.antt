@@ -21,7 +21,8 @@ use Rattle.verdict.specs.laws.Bench.{allBytes, no-other, lowest-2, twelve-judge
 use Rattle.quorum.specs.Sets.{setBits, hasReplica, withReplica, majority, asksEnough, keepsEnough, everyReplica, within, membersFrom}
 use Rattle.slots.specs.Free.{countFrom, firstFrom}
 use Rattle.stamps.specs.Stamp.{stampLess, raised}
-use Rattle.method.specs.Plan.{started, startIn, startOf, askOf, keepOf, current, keepsOf, phaseEnds, holds, tellCounts, tellIn, tellOf, lastEntry, keptCounts, keptIn, keptOf}
+use Rattle.method.specs.Plan.{started, startIn, startOf, askOf, keepOf, current, keepsOf, phaseEnds, tellCounts, tellIn, tellOf, keptCounts, keptIn, keptOf}
+use Rattle.method.specs.Holding.{holds, lastEntry}
 use Rattle.method.specs.Plan.{deliverIn, deliverOf, ofSlot, planOf}
 use Rattle.rack.specs.Places.{freeAt, roomOf, sentOf, recordOf}
 use Rattle.rack.specs.Sound.{allBelow, sizesFit, pairFits, bodyFits, messageFits, heldFits, workFits, owes, owedBy, owedIn, owed, wireFits, pairsFit, partiesFit, recordFits}
