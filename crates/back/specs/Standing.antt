@@ -10,6 +10,7 @@ use mathlib.Core.List.{List, [], _∷_}
 use lib.ListN.{getD, length}
 use Rattle.record.specs.declared.Entry.{Entry}
 use Rattle.record.specs.declared.Entry.the-variants.{ReadAsked, WriteAsked, Told, Done}
+use Rattle.record.specs.Entry.{clientLimit}
 use Rattle.record.specs.Record.{entryLimit, fresh}
 use Rattle.record.specs.Legal.{Follows}
 use Rattle.law.specs.Standing.{has, standing}
@@ -107,7 +108,7 @@ pub record FitsWords (r : Rack) : Type 0 where
 -- The arrays of clients and lines are whole; the record has `count` entries, all of this rack and none a 26 or 27 after those before it; and each
 -- client is at what the record leaves it open.
 pub record Agrees (r : Rack) : Type 0 where
-  pub parties : length (r .parties) ≡ 8
+  pub parties : length (r .parties) ≡ clientLimit
   pub lines : length (r .lines) ≡ entryLimit
   pub count : length (recordOf r) ≡ r .count
   pub most : r .count ≤ entryLimit

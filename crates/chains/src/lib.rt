@@ -5,6 +5,13 @@ ghost use lib.ListN.{getD};
 ghost use Rattle.chains.specs.Chains.{Again};
 ghost use Rattle.chains.specs.Table.{homeOf, Chained, Empty, Found, Linking};
 ghost use Rattle.chains.specs.laws.Entering.{Decides, Entered};
+use record::Cell;
+use record::ENTRY_LIMIT;
+
+// How many chains the table has: twice as many as a record has entries.
+pub const CHAINS: usize = 2 * ENTRY_LIMIT;
+
+const WIDE_CHAINS: u64 = CHAINS as u64;
 
 // What linking the writes gives: all are linked, or the first that asks again.
 pub enum Linked {
@@ -47,25 +54,31 @@ fn narrow(x: usize) -> u16
 fn chain_of(x: u64) -> usize
     ensures { λ r. ⌜ (r ≡ x % 4096) × (r < 4096) ⌝ }
 {
-    (x % 4096) as usize
+    (x % WIDE_CHAINS) as usize
 }
 
 // The chain of a cell and a value: the middle of a product, so that near values lie far apart.
-fn home(cell: u8, value: u32) -> usize
-    ensures { λ r. ⌜ (r ≡ homeOf cell value) × (r < 4096) ⌝ }
+fn home(cell: Cell, value: u32) -> usize
+    ensures { λ r. ⌜ (r ≡ homeOf (cell .0) value) × (r < 4096) ⌝ }
 {
-    let x = wide_value(value) + wide_cell(cell) * 65537;
+    let x = wide_value(value) + wide_cell(cell.0) * 65537;
     let y = x * 1327217885;
     chain_of(y / 1048576)
 }
 
 // Whether an entry has this cell and value.
-fn suits(cells: &[u8; 2048], values: &[u32; 2048], w: usize, cell: u8, value: u32) -> bool
+fn suits(
+    cells: &[u8; ENTRY_LIMIT],
+    values: &[u32; ENTRY_LIMIT],
+    w: usize,
+    cell: Cell,
+    value: u32,
+) -> bool
     requires { ⌜ w < 2048 ⌝ }
-    ensures { λ r. ⌜ Decides ((getD (now (cells .entry)) w 0 ≡ cell) × (getD (now (values .entry)) w 0 ≡ value)) r ⌝ }
+    ensures { λ r. ⌜ Decides ((getD (now (cells .entry)) w 0 ≡ cell .0) × (getD (now (values .entry)) w 0 ≡ value)) r ⌝ }
 {
     if values[w] == value {
-        if cells[w] == cell {
+        if cells[w] == cell.0 {
             return true;
         }
     }
@@ -74,17 +87,17 @@ fn suits(cells: &[u8; 2048], values: &[u32; 2048], w: usize, cell: u8, value: u3
 
 // The write of a cell and a value, down their chain. The kinds and n only say which entries the table holds, and are not read.
 pub fn find(
-    kinds: &[u8; 2048],
-    cells: &[u8; 2048],
-    values: &[u32; 2048],
+    kinds: &[u8; ENTRY_LIMIT],
+    cells: &[u8; ENTRY_LIMIT],
+    values: &[u32; ENTRY_LIMIT],
     n: usize,
-    head: &[u16; 4096],
-    next: &[u16; 2048],
-    cell: u8,
+    head: &[u16; CHAINS],
+    next: &[u16; ENTRY_LIMIT],
+    cell: Cell,
     value: u32,
 ) -> Write
     requires { ⌜ Chained (now kinds) (now cells) (now values) n (now head) (now next) ⌝ }
-    ensures { λ r. ⌜ Found (now (kinds .entry)) (now (cells .entry)) (now (values .entry)) n cell value r ⌝ }
+    ensures { λ r. ⌜ Found (now (kinds .entry)) (now (cells .entry)) (now (values .entry)) n (cell .0) value r ⌝ }
 {
     let h = home(cell, value);
     let mut link = wide(head[h]);
@@ -100,12 +113,12 @@ pub fn find(
 
 // Whether a write asks again: what is entered already is all that comes before it.
 fn asks_again(
-    kinds: &[u8; 2048],
-    cells: &[u8; 2048],
-    values: &[u32; 2048],
+    kinds: &[u8; ENTRY_LIMIT],
+    cells: &[u8; ENTRY_LIMIT],
+    values: &[u32; ENTRY_LIMIT],
     p: usize,
-    head: &[u16; 4096],
-    next: &[u16; 2048],
+    head: &[u16; CHAINS],
+    next: &[u16; ENTRY_LIMIT],
 ) -> bool
     requires { ⌜ (p < 2048) × (getD (now kinds) p 0 ≡ 1) × Chained (now kinds) (now cells) (now values) p (now head) (now next) ⌝ }
     ensures { λ r. ⌜ Decides (Again (now (kinds .entry)) (now (cells .entry)) (now (values .entry)) p) r ⌝ }
@@ -113,7 +126,8 @@ fn asks_again(
     if values[p] == 0 {
         return true;
     }
-    match find(kinds, cells, values, p, head, next, cells[p], values[p]) {
+    let x = cells[p];
+    match find(kinds, cells, values, p, head, next, Cell(x), values[p]) {
         Write::At(_) => true,
         Write::None => false,
     }
@@ -121,12 +135,12 @@ fn asks_again(
 
 // Entry p into the table, in front of its chain, if it asks to write. False if it asks again.
 fn enter(
-    kinds: &[u8; 2048],
-    cells: &[u8; 2048],
-    values: &[u32; 2048],
+    kinds: &[u8; ENTRY_LIMIT],
+    cells: &[u8; ENTRY_LIMIT],
+    values: &[u32; ENTRY_LIMIT],
     p: usize,
-    head: &mut [u16; 4096],
-    next: &mut [u16; 2048],
+    head: &mut [u16; CHAINS],
+    next: &mut [u16; ENTRY_LIMIT],
 ) -> bool
     requires { ⌜ (p < 2048) × Chained (now kinds) (now cells) (now values) p (now head) (now next) ⌝ }
     ensures { λ r. ⌜ Entered (now (kinds .entry)) (now (cells .entry)) (now (values .entry)) p (now (head .entry)) (now (next .entry)) (now (head .exit)) (now (next .exit)) r ⌝ }
@@ -137,7 +151,8 @@ fn enter(
     if asks_again(kinds, cells, values, p, &*head, &*next) {
         return false;
     }
-    let h = home(cells[p], values[p]);
+    let x = cells[p];
+    let h = home(Cell(x), values[p]);
     let old = head[h];
     next[p] = old;
     head[h] = narrow(p + 1);
@@ -146,12 +161,12 @@ fn enter(
 
 // Every write of the record into the empty table, or the first that asks again.
 pub fn link(
-    kinds: &[u8; 2048],
-    cells: &[u8; 2048],
-    values: &[u32; 2048],
+    kinds: &[u8; ENTRY_LIMIT],
+    cells: &[u8; ENTRY_LIMIT],
+    values: &[u32; ENTRY_LIMIT],
     n: usize,
-    head: &mut [u16; 4096],
-    next: &mut [u16; 2048],
+    head: &mut [u16; CHAINS],
+    next: &mut [u16; ENTRY_LIMIT],
 ) -> Linked
     requires { ⌜ (n ≤ 2048) × Empty (now head) (now next) ⌝ }
     ensures { λ r. ⌜ Linking (now (kinds .entry)) (now (cells .entry)) (now (values .entry)) n (now (next .entry)) (now (head .exit)) (now (next .exit)) r ⌝ }

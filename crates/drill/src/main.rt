@@ -17,7 +17,7 @@ fn say(script: &[u8]) {
 }
 
 fn main() {
-    let mut script = [0u8; 4194305];
+    let mut script = [0u8; TOO_LONG];
     let n = io::read_full(STDIN_FILENO, &mut script);
     if n == TOO_LONG {
         input::drop_rest();

@@ -6,6 +6,8 @@ ghost use lib.Dec.{ltb};
 ghost use lib.Count.{ones};
 ghost use Rattle.number.specs.Value.{signedOf};
 ghost use Rattle.method.specs.About.{clientIn, clientOf};
+ghost use Rattle.record.specs.Record.{entryLimit};
+ghost use Rattle.rack.specs.Places.{slotLimit};
 ghost use Rattle.rack.specs.Sound.{owedIn};
 ghost use Rattle.rack.specs.Run.{byte, eventOf, inRack, slotOf, placeIn, freed, checked};
 use method::Decision;
@@ -20,14 +22,19 @@ use record::Cell;
 use record::Client;
 use record::Replica;
 
-// A client's, a replica's or a cell's number is a byte; what isn't is no number of any rack.
+// How many numbers a byte has. A client's, a replica's or a cell's number is a byte; what isn't is no number of any rack.
+const BYTE_LIMIT: u32 = u8::MAX as u32 + 1;
+
+// How many entries there may be, with the answers owed, for a start: it needs a place for its own entry and one for its answer.
+const ENTRIES_AT_START: usize = Rack::ENTRIES - 2;
+
 fn start_read(a: u32, b: u32) -> Event
     ensures { λ r. ⌜ r ≡ byte a (byte b (Event.StartRead (record { 0 = a }) (record { 0 = b }))) ⌝ }
 {
-    if 256 <= a {
+    if BYTE_LIMIT <= a {
         return Event::Unknown;
     }
-    if 256 <= b {
+    if BYTE_LIMIT <= b {
         return Event::Unknown;
     }
     Event::StartRead(Client(a as u8), Cell(b as u8))
@@ -36,10 +43,10 @@ fn start_read(a: u32, b: u32) -> Event
 fn start_write(a: u32, b: u32, value: u32) -> Event
     ensures { λ r. ⌜ r ≡ byte a (byte b (Event.StartWrite (record { 0 = a }) (record { 0 = b }) (signedOf value))) ⌝ }
 {
-    if 256 <= a {
+    if BYTE_LIMIT <= a {
         return Event::Unknown;
     }
-    if 256 <= b {
+    if BYTE_LIMIT <= b {
         return Event::Unknown;
     }
     let v = number::signed(value);
@@ -49,7 +56,7 @@ fn start_write(a: u32, b: u32, value: u32) -> Event
 fn resend(a: u32) -> Event
     ensures { λ r. ⌜ r ≡ byte a (Event.Resend (record { 0 = a })) ⌝ }
 {
-    if 256 <= a {
+    if BYTE_LIMIT <= a {
         return Event::Unknown;
     }
     Event::Resend(Client(a as u8))
@@ -58,7 +65,7 @@ fn resend(a: u32) -> Event
 fn stop(a: u32) -> Event
     ensures { λ r. ⌜ r ≡ byte a (Event.Stop (record { 0 = a })) ⌝ }
 {
-    if 256 <= a {
+    if BYTE_LIMIT <= a {
         return Event::Unknown;
     }
     Event::Stop(Client(a as u8))
@@ -67,7 +74,7 @@ fn stop(a: u32) -> Event
 fn off(a: u32) -> Event
     ensures { λ r. ⌜ r ≡ byte a (Event.Off (record { 0 = a })) ⌝ }
 {
-    if 256 <= a {
+    if BYTE_LIMIT <= a {
         return Event::Unknown;
     }
     Event::Off(Replica(a as u8))
@@ -76,7 +83,7 @@ fn off(a: u32) -> Event
 fn on(a: u32) -> Event
     ensures { λ r. ⌜ r ≡ byte a (Event.On (record { 0 = a })) ⌝ }
 {
-    if 256 <= a {
+    if BYTE_LIMIT <= a {
         return Event::Unknown;
     }
     Event::On(Replica(a as u8))
@@ -127,7 +134,7 @@ fn both_in(sizes: Sizes, client: Client, cell: Cell) -> bool
 }
 
 fn slot_in(slot: usize) -> bool
-    ensures { λ r. ⌜ r ≡ ltb slot 256 ⌝ }
+    ensures { λ r. ⌜ r ≡ ltb slot slotLimit ⌝ }
 {
     slot < Rack::SLOTS
 }
@@ -209,7 +216,7 @@ pub fn place_in(held: InSlot) -> usize
         InSlot::Full(m) => {
             let replica = m.replica;
             let cell = m.cell;
-            16 * place(replica.0) + place(cell.0)
+            Cell::LIMIT * place(replica.0) + place(cell.0)
         }
     }
 }
@@ -265,12 +272,12 @@ fn sent(outcome: Decision, room: usize, clear: bool, to: u16) -> Decision
 
 // Whether there is no place for an entry and its answer beside the entries and the answers owed.
 fn crowded(count: usize, owed: usize) -> bool
-    ensures { λ r. ⌜ r ≡ ltb 2048 (count + owed + 2) ⌝ }
+    ensures { λ r. ⌜ r ≡ ltb entryLimit (count + owed + 2) ⌝ }
 {
-    if 2046 < count {
+    if ENTRIES_AT_START < count {
         return true;
     }
-    2046 - count < owed
+    ENTRIES_AT_START - count < owed
 }
 
 // The refusals that every plan has to pass: 11 with as many entries and these clients, and 13 with as much room. The answers owed are counted for a start
@@ -278,7 +285,7 @@ fn crowded(count: usize, owed: usize) -> bool
 pub fn checked(
     outcome: Decision,
     count: usize,
-    parties: [Party; 8],
+    parties: [Party; Client::LIMIT],
     clients: u8,
     room: usize,
 ) -> Decision

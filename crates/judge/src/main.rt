@@ -13,7 +13,7 @@ fn say(bytes: &[u8]) {
 }
 
 fn main() {
-    let mut bytes = [0u8; 16385];
+    let mut bytes = [0u8; DECIDES];
     let n = io::read_full(STDIN_FILENO, &mut bytes);
     if n == DECIDES {
         input::drop_rest();

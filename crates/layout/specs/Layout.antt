@@ -9,26 +9,45 @@
 use Prim.Native.Nat.{ℕ, zero, suc, _+_, _*_}
 use mathlib.Core.List.{List, [], _∷_, _++_}
 use lib.ListN.{getD}
+use Rattle.record.specs.Entry.{clientLimit}
+use Rattle.record.specs.Record.{entryLimit}
+use Rattle.rack.specs.Places.{slotLimit, pairLimit}
 
--- how many words a rack takes
-abbrev pub wordCount : ℕ
-wordCount = 11301
+-- the words of the head, a client, a pair, a slot and an entry
+abbrev pub headSize : ℕ
+headSize = 5
 
--- where client i stands
+abbrev pub partySize : ℕ
+partySize = 10
+
+abbrev pub pairSize : ℕ
+pairSize = 3
+
+abbrev pub slotSize : ℕ
+slotSize = 9
+
+abbrev pub entrySize : ℕ
+entrySize = 4
+
+-- where client i stands: after the head
 abbrev pub partyPlace : ℕ → ℕ
-partyPlace i = 5 + 10 * i
+partyPlace i = headSize + partySize * i
 
--- where the pair at place i stands
+-- where the pair at place i stands: after the clients
 abbrev pub pairPlace : ℕ → ℕ
-pairPlace i = 85 + 3 * i
+pairPlace i = partyPlace clientLimit + pairSize * i
 
--- where slot i stands
+-- where slot i stands: after the pairs
 abbrev pub slotPlace : ℕ → ℕ
-slotPlace i = 805 + 9 * i
+slotPlace i = pairPlace pairLimit + slotSize * i
 
--- where entry i stands
+-- where entry i stands: after the slots
 abbrev pub entryPlace : ℕ → ℕ
-entryPlace i = 3109 + 4 * i
+entryPlace i = slotPlace slotLimit + entrySize * i
+
+-- how many words a rack takes: up to after the entries
+abbrev pub wordCount : ℕ
+wordCount = entryPlace entryLimit
 
 -- the word at a place
 abbrev pub word : List ℕ → ℕ → ℕ

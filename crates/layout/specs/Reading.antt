@@ -6,6 +6,7 @@ use lib.Dec.{ltb, eqb}
 use lib.ListN.{drop, replicate}
 use Rattle.number.specs.Value.{signedOf}
 use Rattle.rows.specs.Row.{entryOf}
+use Rattle.record.specs.Entry.{clientLimit, cellLimit}
 use Rattle.record.specs.Record.{entryLimit}
 use Rattle.stamps.specs.declared.Pair.{Pair}
 use Rattle.method.specs.declared.Body.{Body}
@@ -22,7 +23,7 @@ use Rattle.rack.specs.declared.Line.{Line}
 use Rattle.rack.specs.declared.Sizes.{Sizes}
 use Rattle.rack.specs.declared.Rack.{Rack}
 use Rattle.stamps.specs.Stamp.{freshPair}
-use Rattle.rack.specs.Places.{slotLimit, blank}
+use Rattle.rack.specs.Places.{slotLimit, pairLimit, blank}
 use Rattle.rack.specs.Sound.{allBelow}
 use Rattle.layout.specs.Layout.{partyPlace, pairPlace, slotPlace, entryPlace, word, firsts}
 
@@ -112,7 +113,7 @@ lineIn ws at = record { entry = entryOf (word ws at) (byteOf (word ws (at + 1)))
 
 -- the kind is at most 3, the client at most 7, and the cell of an entry that has one at most 15
 unfoldable pub entryKnown : ℕ → ℕ → ℕ → Bool
-entryKnown kind client cell = ltb kind 4 && (ltb client 8 && (not (ltb kind 2) || ltb cell 16))
+entryKnown kind client cell = ltb kind 4 && (ltb client clientLimit && (not (ltb kind 2) || ltb cell cellLimit))
 
 -- whether an entry stands at a place
 unfoldable pub lineKnown : List ℕ → ℕ → Bool
@@ -126,9 +127,9 @@ linesIn n ws = firsts n (λ i. lineIn ws (entryPlace i)) ++ drop n (replicate en
 unfoldable pub entryCount : List ℕ → ℕ
 entryCount ws = min (word ws 4) entryLimit
 
--- the count of entries: 2,049 where it is no count, or where one of them is no entry
+-- the count of entries: one more than a record holds where it is no count, or where one of them is no entry
 unfoldable pub countIn : List ℕ → ℕ
-countIn ws = cond (ltb entryLimit (word ws 4) || not (allBelow (entryCount ws) (λ i. lineKnown ws (entryPlace i)))) 2049 (word ws 4)
+countIn ws = cond (ltb entryLimit (word ws 4) || not (allBelow (entryCount ws) (λ i. lineKnown ws (entryPlace i)))) (entryLimit + 1) (word ws 4)
 
 -- ---- the rack
 
@@ -152,8 +153,8 @@ rackOf ws =
       sizes = sizesIn ws;
       power = powerOf (word ws 3);
       count = countIn ws;
-      parties = firsts 8 (λ i. partyIn ws (partyPlace i));
-      pairs = firsts 240 (λ i. pairIn ws (pairPlace i));
+      parties = firsts clientLimit (λ i. partyIn ws (partyPlace i));
+      pairs = firsts pairLimit (λ i. pairIn ws (pairPlace i));
       wire = firsts slotLimit (λ i. slotIn ws (slotPlace i));
       lines = linesIn (entryCount ws) ws;
     }

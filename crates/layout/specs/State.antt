@@ -4,6 +4,8 @@ use mathlib.Core.Path.{_≡_}
 use mathlib.Core.Bool.{Bool, true, _||_}
 use mathlib.Core.List.{List}
 use lib.Dec.{eqb}
+use Rattle.record.specs.Record.{entryLimit}
+use Rattle.rack.specs.Places.{slotLimit}
 use Rattle.layout.specs.Layout.{partyPlace, slotPlace, entryPlace, word}
 use Rattle.layout.specs.Reading.{partyKnown, messageKnown, lineKnown, rackOf}
 
@@ -18,7 +20,7 @@ slotKnownAt ws at = eqb (word ws at) 0 || messageKnown (word ws at) (word ws (at
 -- the words are a state: power, count, entries, clients and slots are such
 pub record State (ws : List ℕ) : Type 0 where
   pub power : word ws 3 < 32768
-  pub count : word ws 4 ≤ 2048
+  pub count : word ws 4 ≤ entryLimit
   pub entries : (i : ℕ) → i < word ws 4 → lineKnown ws (entryPlace i) ≡ true
   pub parties : (i : ℕ) → i < rackOf ws .sizes .clients → partyKnownAt ws (partyPlace i) ≡ true
-  pub slots : (i : ℕ) → i < 256 → slotKnownAt ws (slotPlace i) ≡ true
+  pub slots : (i : ℕ) → i < slotLimit → slotKnownAt ws (slotPlace i) ≡ true

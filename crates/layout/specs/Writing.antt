@@ -6,6 +6,7 @@ use lib.Dec.{ltb, eqb}
 use lib.ListN.{getD, replicate}
 use lib.Seq.{sets}
 use Rattle.number.specs.Value.{alternatingOf}
+use Rattle.record.specs.Entry.{cellLimit}
 use Rattle.record.specs.declared.Cell.{Cell}
 use Rattle.record.specs.declared.Entry.{Entry}
 use Rattle.record.specs.declared.Entry.the-variants.{ReadAsked}
@@ -24,7 +25,7 @@ use Rattle.rack.specs.declared.Line.{Line}
 use Rattle.rack.specs.declared.Rack.{Rack}
 use Rattle.stamps.specs.Stamp.{freshPair}
 use Rattle.rack.specs.Places.{slotLimit, partyAt, heldAt}
-use Rattle.layout.specs.Layout.{partyPlace, pairPlace, slotPlace, entryPlace}
+use Rattle.layout.specs.Layout.{slotSize, partyPlace, pairPlace, slotPlace, entryPlace}
 
 -- a pair: number, rank, value
 unfoldable pub pairWords : Pair → List ℕ
@@ -78,7 +79,7 @@ bodyWords Kept = noPair
 
 -- a slot, empty or full
 unfoldable pub slotWords : InSlot → List ℕ
-slotWords Empty = replicate 9 0
+slotWords Empty = replicate slotSize 0
 slotWords (Full m) = (1 ∷ bodyKind (m .body) ∷ m .client .0 ∷ m .replica .0 ∷ m .cell .0 ∷ m .op ∷ []) ++ bodyWords (m .body)
 
 -- ---- the rack
@@ -98,11 +99,11 @@ partiesPut r ws = putFirsts (r .sizes .clients) partyPlace (λ i. partyWords (pa
 
 -- a pair of a cell that the rack hasn't got is not written
 unfoldable pub pairWritten : ℕ → ℕ → Pair → List ℕ
-pairWritten cells i p = cond (ltb (i % 16) cells) (pairWords p) []
+pairWritten cells i p = cond (ltb (i % cellLimit) cells) (pairWords p) []
 
 -- then the pairs of its replicas and cells
 unfoldable pub pairsPut : Rack → List ℕ → List ℕ
-pairsPut r ws = putFirsts (16 * r .sizes .replicas) pairPlace (λ i. pairWritten (r .sizes .cells) i (getD (r .pairs) i freshPair)) ws
+pairsPut r ws = putFirsts (cellLimit * r .sizes .replicas) pairPlace (λ i. pairWritten (r .sizes .cells) i (getD (r .pairs) i freshPair)) ws
 
 -- then the slots of its wire
 unfoldable pub wirePut : Rack → List ℕ → List ℕ

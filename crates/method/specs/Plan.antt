@@ -11,7 +11,7 @@ use Rattle.record.specs.declared.Entry.{Entry}
 use Rattle.record.specs.declared.Entry.the-variants.{ReadAsked, WriteAsked}
 use Rattle.quorum.specs.Sets.{hasReplica, withReplica, asksEnough, keepsEnough, withoutReplica, everyReplica, others}
 use Rattle.stamps.specs.declared.Pair.{Pair}
-use Rattle.stamps.specs.Stamp.{freshPair, raised}
+use Rattle.stamps.specs.Stamp.{lastNumber, freshPair, raised}
 use Rattle.method.specs.Holding.{holds, lastEntry}
 use Rattle.method.specs.declared.Body.{Body}
 use Rattle.method.specs.declared.Body.the-variants.{Ask, Tell, Keep, Kept}
@@ -71,9 +71,13 @@ started s op client cell goal entry =
     planned s (activeParty (op + 1) (Asking cell goal 0 freshPair)) false (Asked entry)
     (messageOf client (record { 0 = 0 }) cell (op + 1) Ask) (everyReplica (s .replicas))
 
+-- the operation number is at most 65,535
+abbrev pub lastOp : ℕ
+lastOp = 65535
+
 -- 6: an operation is open; 10: operation number 65,535
 unfoldable pub startIn : Work → Sight → ℕ → Client → Cell → Goal → Entry → Decision
-startIn Idle s op client cell goal entry = cond (eqb op 65535) (No 10) (started s op client cell goal entry)
+startIn Idle s op client cell goal entry = cond (eqb op lastOp) (No 10) (started s op client cell goal entry)
 startIn (Asking y g set h) s op client cell goal entry = No 6
 startIn (Keeping y g set h) s op client cell goal entry = No 6
 
@@ -111,7 +115,7 @@ written client v held = record { stamp = record { number = held .stamp .number +
 unfoldable pub phaseEnds : Goal → Sight → Message → Cell → Pair → Decision
 phaseEnds Read s m cell held = keepsOf s m cell Read held
 phaseEnds (Write v) s m cell held =
-    cond (eqb (held .stamp .number) 4294967295) (No 12) (keepsOf s m cell (Write v) (written (m .client) v held))
+    cond (eqb (held .stamp .number) lastNumber) (No 12) (keepsOf s m cell (Write v) (written (m .client) v held))
 
 -- a tell that counts: at a majority the phase ends in that same delivery
 unfoldable pub tellCounts : Sight → Message → Cell → Goal → ℕ → Pair → Decision

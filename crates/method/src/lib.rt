@@ -58,6 +58,11 @@ pub struct Party {
     pub work: Work,
 }
 
+impl Party {
+    // The greatest operation number: no operation starts after it.
+    pub const LAST_OP: u16 = u16::MAX;
+}
+
 // What an event looks at: how many replicas there are, the power, and the client and the pair that it is about.
 pub struct Sight {
     pub replicas: u8,

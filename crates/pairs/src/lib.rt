@@ -1,20 +1,25 @@
 // The judge's first pass: a record's entries are read, and each end is paired with its start.
 ghost use mathlib.Core.Path.{_≡_};
 ghost use Prim.Native.Nat.{_<_, _≤_};
+ghost use Rattle.record.specs.Entry.{lastClient};
+ghost use Rattle.record.specs.Record.{entryLimit};
 ghost use Rattle.record.specs.Legal.{InRange};
 ghost use Rattle.pairs.specs.Pairs.{PairsUp};
 ghost use Rattle.pairs.specs.laws.Noting.{Long, Low, startRow, endRow, noteRow, Noted};
 use record::Answer;
+use record::Cell;
+use record::Client;
+use record::ENTRY_LIMIT;
 use record::Entry;
 use record::Found;
 use record::Standing;
 
 // All four are as long as a record may be. It does nothing: a proof has the lengths of lent arrays from it.
 fn lengths(
-    kinds: &[u8; 2048],
-    cells: &[u8; 2048],
-    values: &[u32; 2048],
-    starts: &[u16; 2048],
+    kinds: &[u8; ENTRY_LIMIT],
+    cells: &[u8; ENTRY_LIMIT],
+    values: &[u32; ENTRY_LIMIT],
+    starts: &[u16; ENTRY_LIMIT],
 ) -> usize
     ensures { λ r. ⌜ Long (now (kinds .entry)) (now (cells .entry)) (now (values .entry)) (now (starts .entry)) ⌝ }
 {
@@ -27,16 +32,16 @@ fn lengths(
 
 // What is kept of an entry; and its client, whose open operation starts at `start`.
 struct Row {
-    client: u8,
+    client: Client,
     kind: u8,
-    cell: u8,
+    cell: Cell,
     value: u32,
     start: u16,
 }
 
 // Of entry n, which starts an operation.
-fn start_row(n: usize, client: u8, kind: u8, cell: u8, value: u32) -> Row
-    requires { ⌜ n < 2048 ⌝ }
+fn start_row(n: usize, client: Client, kind: u8, cell: Cell, value: u32) -> Row
+    requires { ⌜ n < entryLimit ⌝ }
     ensures { λ r. ⌜ r ≡ startRow n client kind cell value ⌝ }
 {
     let start = n as u16;
@@ -50,60 +55,62 @@ fn start_row(n: usize, client: u8, kind: u8, cell: u8, value: u32) -> Row
 }
 
 // Of an entry that ends the client's open operation: the cell is the one that was asked for.
-fn end_row(cells: &[u8; 2048], opened: &[u16; 8], client: u8, kind: u8, value: u32) -> Row
-    requires { ⌜ (client ≤ 7) × Low (now opened) ⌝ }
+fn end_row(
+    cells: &[u8; ENTRY_LIMIT],
+    opened: &[u16; Client::LIMIT],
+    client: Client,
+    kind: u8,
+    value: u32,
+) -> Row
+    requires { ⌜ (client .0 ≤ lastClient) × Low (now opened) ⌝ }
     ensures { λ r. ⌜ r ≡ endRow (now (cells .entry)) (now (opened .entry)) client kind value ⌝ }
 {
-    let k = client as usize;
+    let k = client.0 as usize;
     let start = opened[k];
     let p = start as usize;
-    let cell = cells[p];
+    let x = cells[p];
     Row {
         client: client,
         kind: kind,
-        cell: cell,
+        cell: Cell(x),
         value: value,
         start: start,
     }
 }
 
 // Of entry n, whatever its kind.
-fn row_of(cells: &[u8; 2048], opened: &[u16; 8], n: usize, e: Entry) -> Row
-    requires { ⌜ (n < 2048) × InRange e × Low (now opened) ⌝ }
+fn row_of(cells: &[u8; ENTRY_LIMIT], opened: &[u16; Client::LIMIT], n: usize, e: Entry) -> Row
+    requires { ⌜ (n < entryLimit) × InRange e × Low (now opened) ⌝ }
     ensures { λ r. ⌜ r ≡ noteRow (now (cells .entry)) (now (opened .entry)) n e ⌝ }
 {
     match e {
-        Entry::ReadAsked(client, cell) => start_row(n, client.0, 0, cell.0, 0),
-        Entry::WriteAsked(client, cell, v) => start_row(
-            n,
-            client.0,
-            1,
-            cell.0,
-            number::alternating(v),
-        ),
-        Entry::Told(client, v) => end_row(cells, opened, client.0, 2, number::alternating(v)),
-        Entry::Done(client) => end_row(cells, opened, client.0, 3, 0),
+        Entry::ReadAsked(client, cell) => start_row(n, client, 0, cell, 0),
+        Entry::WriteAsked(client, cell, v) => start_row(n, client, 1, cell, number::alternating(v)),
+        Entry::Told(client, v) => end_row(cells, opened, client, 2, number::alternating(v)),
+        Entry::Done(client) => end_row(cells, opened, client, 3, 0),
     }
 }
 
 // Stores what is kept of entry n.
 fn note_entry(
-    kinds: &mut [u8; 2048],
-    cells: &mut [u8; 2048],
-    values: &mut [u32; 2048],
-    starts: &mut [u16; 2048],
-    opened: &mut [u16; 8],
+    kinds: &mut [u8; ENTRY_LIMIT],
+    cells: &mut [u8; ENTRY_LIMIT],
+    values: &mut [u32; ENTRY_LIMIT],
+    starts: &mut [u16; ENTRY_LIMIT],
+    opened: &mut [u16; Client::LIMIT],
     n: usize,
     e: Entry,
 )
-    requires { ⌜ (n < 2048) × InRange e × Low (now opened) ⌝ }
+    requires { ⌜ (n < entryLimit) × InRange e × Low (now opened) ⌝ }
     ensures { λ r. ⌜ Noted (now (kinds .entry)) (now (cells .entry)) (now (values .entry)) (now (starts .entry)) (now (opened .entry)) n (noteRow (now (cells .entry)) (now (opened .entry)) n e) (now (kinds .exit)) (now (cells .exit)) (now (values .exit)) (now (starts .exit)) (now (opened .exit)) ⌝ }
 {
     let row = row_of(cells, opened, n, e);
-    let k = row.client as usize;
+    let client = row.client;
+    let cell = row.cell;
+    let k = client.0 as usize;
     opened[k] = row.start;
     kinds[n] = row.kind;
-    cells[n] = row.cell;
+    cells[n] = cell.0;
     values[n] = row.value;
     starts[n] = row.start;
 }
@@ -111,20 +118,20 @@ fn note_entry(
 // Reads a record and pairs its entries, or answers the first fault.
 pub fn pair_up(
     s: &[u8],
-    kinds: &mut [u8; 2048],
-    cells: &mut [u8; 2048],
-    values: &mut [u32; 2048],
-    starts: &mut [u16; 2048],
+    kinds: &mut [u8; ENTRY_LIMIT],
+    cells: &mut [u8; ENTRY_LIMIT],
+    values: &mut [u32; ENTRY_LIMIT],
+    starts: &mut [u16; ENTRY_LIMIT],
 ) -> Answer
     ensures { λ r. ⌜ PairsUp (now (s .entry)) r (now (kinds .exit)) (now (cells .exit)) (now (values .exit)) (now (starts .exit)) ⌝ }
 {
     lengths(kinds, cells, values, starts);
     let mut st = Standing::fresh();
-    let mut opened = [0u16; 8];
+    let mut opened = [0u16; Client::LIMIT];
     let mut at = 0;
     let mut n: usize = 0;
     while at < s.len() {
-        if n == record::ENTRY_LIMIT {
+        if n == ENTRY_LIMIT {
             return Answer::Refused(28, n);
         }
         match reader::entry_at(s, at) {

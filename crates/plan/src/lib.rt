@@ -7,7 +7,7 @@ ghost use Rattle.method.specs.declared.Note.the-variants.{Nothing, Ended};
 ghost use Rattle.method.specs.declared.Work.the-variants.{Idle, Asking};
 ghost use Rattle.method.specs.Holding.{holds, lastEntry};
 ghost use Rattle.method.specs.Plan.{messageOf, activeParty, planned, usedUp, answered, started, startOf, askOf, keepOf, current, keepsOf, phaseEnds, tellCounts, tellIn};
-ghost use Rattle.method.specs.Plan.{tellOf, keptCounts, keptIn, keptOf, deliverOf, copyOf, resendOf, noMessage, stopOf, powered, offOf, onOf, ofSlot, planOf};
+ghost use Rattle.method.specs.Plan.{lastOp, tellOf, keptCounts, keptIn, keptOf, deliverOf, copyOf, resendOf, noMessage, stopOf, powered, offOf, onOf, ofSlot, planOf};
 use method::Body;
 use method::Decision;
 use method::Event;
@@ -105,7 +105,7 @@ fn answered(sight: Sight, after: Pair, m: Message, body: Body) -> Decision
 
 // The operation number rises by one, the record gets an entry, an ask goes to every replica.
 fn started(sight: Sight, op: u16, client: Client, cell: Cell, goal: Goal, entry: Entry) -> Decision
-    requires { ⌜ op < 65535 ⌝ }
+    requires { ⌜ op < lastOp ⌝ }
     ensures { λ r. ⌜ r ≡ started sight op client cell goal entry ⌝ }
 {
     let held = fresh_pair();
@@ -149,7 +149,7 @@ fn start(sight: Sight, client: Client, cell: Cell, goal: Goal, entry: Entry) -> 
         } => Decision::No(6),
         Work::Idle => {
             let op = party.op;
-            if op == 65535 {
+            if op == Party::LAST_OP {
                 return Decision::No(10);
             }
             started(sight, op, client, cell, goal, entry)
@@ -222,7 +222,7 @@ fn phase_ends(sight: Sight, m: Message, cell: Cell, goal: Goal, held: Pair) -> D
         Goal::Write(v) => {
             let s = held.stamp;
             let number = s.number;
-            if number == 4294967295 {
+            if number == Stamp::LAST {
                 return Decision::No(12);
             }
             let client = m.client;

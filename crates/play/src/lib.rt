@@ -9,6 +9,7 @@ ghost use Rattle.rack.specs.Run.{ranOf, runOf};
 ghost use Rattle.play.specs.Play.{playedOf, drillText};
 use rack::Rack;
 use rack::Ran;
+use schedule::EVENT_WORDS;
 use script::Words;
 
 fn ran(done: usize, refusal: u8, rack: Rack) -> Ran
@@ -30,12 +31,15 @@ fn least(a: usize, b: usize) -> usize
     b
 }
 
-// Runs the events from a place on, 512 at a time, so that a script of any length needs no more memory. Fewer done than were tried is a refusal.
+// How many events are run at a time.
+const AT_A_TIME: usize = 512;
+
+// Runs the events from a place on, so many at a time, so that a script of any length needs no more memory. Fewer done than were tried is a refusal.
 fn play_events(rack: Rack, allowance: usize, s: &[u8], first: usize) -> Ran
     requires { ⌜ soundOf rack ≡ true ⌝ }
     ensures { λ q. ⌜ q ≡ runOf rack allowance (wordsOf (eventsFrom (now (s .entry)) first)) ⌝ }
 {
-    let mut words = [0u32; 2048];
+    let mut words = [0u32; EVENT_WORDS * AT_A_TIME];
     let mut r = rack;
     let mut done: usize = 0;
     let mut at = first;

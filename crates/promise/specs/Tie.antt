@@ -11,6 +11,7 @@ use lib.Dec.{leb}
 use lib.IntN.{ℤ, pos}
 use lib.ListN.{length}
 use Rattle.record.specs.declared.Cell.{Cell}
+use Rattle.record.specs.Entry.{clientLimit}
 use Rattle.record.specs.Record.{entryLimit}
 use Rattle.law.specs.Operation.{Op as Operation, operations}
 use Rattle.law.specs.Order.{In}
@@ -25,7 +26,7 @@ use Rattle.method.specs.declared.Goal.{Goal}
 use Rattle.method.specs.declared.Goal.the-variants.{Read, Write}
 use Rattle.method.specs.declared.Work.{Work}
 use Rattle.method.specs.declared.Work.the-variants.{Idle, Asking, Keeping}
-use Rattle.rack.specs.Places.{partyAt, pairAt, heldAt, recordOf}
+use Rattle.rack.specs.Places.{pairLimit, partyAt, pairAt, heldAt, recordOf}
 use Rattle.protocol.specs.Message.{Tell as Told, Keep as Chose, Kept as Has}
 use Rattle.protocol.specs.Move.{Reached}
 use Rattle.promise.specs.Setting.{settingOf}
@@ -116,8 +117,8 @@ pub record Book (ops : ℕ → Op) (s : List Operation) : Type 0 where
 
 -- the arrays have their lengths
 pub record Long (r : Rack) : Type 0 where
-  pub parties : length (r .parties) ≡ 8
-  pub pairs : length (r .pairs) ≡ 240
+  pub parties : length (r .parties) ≡ clientLimit
+  pub pairs : length (r .pairs) ≡ pairLimit
   pub lines : length (r .lines) ≡ entryLimit
 
 -- the view v stands for the rack r, and name says which operation of it a client's operation number is

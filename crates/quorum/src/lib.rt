@@ -80,7 +80,7 @@ pub fn every(n: u8) -> u16
     ensures { λ r. ⌜ r ≡ everyReplica n ⌝ }
 {
     if SET_BITS <= n {
-        return 65535;
+        return u16::MAX;
     }
     (1u16 << n) - 1
 }
@@ -104,10 +104,11 @@ pub fn within(n: u8, set: u16) -> bool
 }
 
 // The lowest replica of the set.
-pub fn lowest(set: u16) -> u8
-    ensures { λ r. ⌜ r ≡ lowestOf set ⌝ }
+pub fn lowest(set: u16) -> Replica
+    ensures { λ r. ⌜ r ≡ record { 0 = lowestOf set } ⌝ }
 {
-    u16::trailing_zeros(set) as u8
+    let k = u16::trailing_zeros(set) as u8;
+    Replica(k)
 }
 
 // The set without its lowest replica.
@@ -117,5 +118,6 @@ pub fn rest(set: u16) -> u16
     if set == 0 {
         return 0;
     }
-    set - (1u16 << lowest(set))
+    let k = lowest(set);
+    set - (1u16 << k.0)
 }

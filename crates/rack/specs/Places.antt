@@ -5,6 +5,7 @@ use mathlib.Core.List.{List, [], _∷_, map}
 use lib.ListN.{getD, set, take}
 use Rattle.record.specs.declared.Entry.{Entry}
 use Rattle.record.specs.declared.Entry.the-variants.{Done}
+use Rattle.record.specs.Entry.{cellLimit}
 use Rattle.slots.specs.Free.{slotCount, countFree, firstFree}
 use Rattle.stamps.specs.declared.Pair.{Pair}
 use Rattle.method.specs.declared.Message.{Message}
@@ -20,6 +21,14 @@ use Rattle.stamps.specs.Stamp.{freshPair}
 -- the wire has 256 slots
 abbrev pub slotLimit : ℕ
 slotLimit = slotCount
+
+-- a rack has at most 15 replicas
+abbrev pub replicaLimit : ℕ
+replicaLimit = 15
+
+-- there are places for the pairs of so many replicas, each with one for every cell
+abbrev pub pairLimit : ℕ
+pairLimit = replicaLimit * cellLimit
 
 -- an empty slot
 abbrev pub empty : Slot
@@ -43,7 +52,7 @@ partyAt r i = getD (r .parties) i idle
 
 -- the place of replica k's pair for cell x
 abbrev pub pairPlace : ℕ → ℕ → ℕ
-pairPlace k x = 16 * k + x
+pairPlace k x = cellLimit * k + x
 
 -- replica k's pair for cell x
 abbrev pub pairAt : Rack → ℕ → ℕ → Pair

@@ -6,6 +6,7 @@ use lib.Dec.{ltb, eqb}
 use lib.ListN.{getD, set, length, replicate}
 use lib.Count.{ones}
 use Rattle.number.specs.Value.{signedOf}
+use Rattle.record.specs.Entry.{clientLimit}
 use Rattle.record.specs.Record.{entryLimit}
 use Rattle.quorum.specs.Sets.{everyReplica, membersOf}
 use Rattle.method.specs.declared.Message.{Message}
@@ -27,7 +28,7 @@ use Rattle.rack.specs.declared.Ran.{Ran}
 use Rattle.stamps.specs.Stamp.{freshPair}
 use Rattle.method.specs.Plan.{messageOf, planOf}
 use Rattle.method.specs.About.{clientOf}
-use Rattle.rack.specs.Places.{slotLimit, empty, blank, idle, partyAt, pairPlace, heldAt, roomOf, sentOf}
+use Rattle.rack.specs.Places.{slotLimit, pairLimit, empty, blank, idle, partyAt, pairPlace, heldAt, roomOf, sentOf}
 use Rattle.rack.specs.Sound.{sizesFit, owed, soundOf}
 
 -- ---- the maker
@@ -38,8 +39,8 @@ freshRack replicas clients cells = record {
   sizes = record { replicas = replicas; clients = clients; cells = cells };
   power = everyReplica replicas;
   count = 0;
-  parties = replicate 8 idle;
-  pairs = replicate 240 freshPair;
+  parties = replicate clientLimit idle;
+  pairs = replicate pairLimit freshPair;
   wire = replicate slotLimit empty;
   lines = replicate entryLimit blank;
 }

@@ -3,10 +3,11 @@ use Prim.Native.Nat.{ℕ, zero, suc, _+_}
 use mathlib.Core.List.{List}
 use lib.ListN.{getD}
 use Rattle.method.specs.declared.Party.{Party}
-use Rattle.rack.specs.Places.{idle, slotLimit, partyAt, pairAt, heldAt}
+use Rattle.rack.specs.Places.{idle, slotLimit, replicaLimit, partyAt, pairAt, heldAt}
 use mathlib.Core.Bool.{Bool, true, cond, not, _&&_, _||_}
 use lib.Dec.{ltb, leb, eqb}
 use Rattle.record.specs.declared.Cell.{Cell}
+use Rattle.record.specs.Entry.{clientLimit, cellLimit}
 use Rattle.record.specs.Record.{entryLimit}
 use Rattle.quorum.specs.Sets.{within, asksEnough, keepsEnough}
 use Rattle.stamps.specs.declared.Pair.{Pair}
@@ -38,7 +39,7 @@ allBelow (suc n) f = allBelow n f && f n
 -- 1 to 15 replicas, 1 to 8 clients and 1 to 16 cells
 unfoldable pub sizesFit : Sizes → Bool
 sizesFit z =
-    (leb 1 (z .replicas) && leb (z .replicas) 15) && ((leb 1 (z .clients) && leb (z .clients) 8) && (leb 1 (z .cells) && leb (z .cells) 16))
+    (leb 1 (z .replicas) && leb (z .replicas) replicaLimit) && ((leb 1 (z .clients) && leb (z .clients) clientLimit) && (leb 1 (z .cells) && leb (z .cells) cellLimit))
 
 -- a pair names a rank that the rack has
 unfoldable pub pairFits : Sizes → Pair → Bool

@@ -5,6 +5,7 @@ pub mod owed;
 
 use method::InSlot;
 use method::Party;
+use record::Client;
 use record::Entry;
 use stamps::Pair;
 
@@ -26,13 +27,13 @@ pub struct Sizes {
 }
 
 // A rack. Of each array only the places within the sizes are part of it, of `lines`, the record, the first `count`, of `power` the bits of its replicas;
-// the pair of replica k for cell x stands at 16 k + x. Other places are never looked at and never changed.
+// the pair of replica k for cell x stands at `Cell::LIMIT` k + x. Other places are never looked at and never changed.
 pub struct Rack {
     pub sizes: Sizes,
     pub power: u16,
     pub count: usize,
-    pub parties: [Party; 8],
-    pub pairs: [Pair; 240],
+    pub parties: [Party; Client::LIMIT],
+    pub pairs: [Pair; Rack::PAIRS],
     pub wire: [Slot; Rack::SLOTS],
     pub lines: [Line; Rack::ENTRIES],
 }

@@ -11,9 +11,18 @@ use crate::Slot;
 use method::InSlot;
 use method::Party;
 use method::Work;
+use record::Cell;
 use record::Client;
 use record::Entry;
+use record::Replica;
 use stamps::fresh_pair;
+
+// The limits of the three sizes, as numbers of their kind.
+const MOST_REPLICAS: u32 = Replica::LIMIT as u32;
+
+const MOST_CLIENTS: u32 = Client::LIMIT as u32;
+
+const MOST_CELLS: u32 = Cell::LIMIT as u32;
 
 // 1 to 15 replicas, 1 to 8 clients and 1 to 16 cells.
 pub fn sizes_in(replicas: u32, clients: u32, cells: u32) -> bool
@@ -22,19 +31,19 @@ pub fn sizes_in(replicas: u32, clients: u32, cells: u32) -> bool
     if replicas < 1 {
         return false;
     }
-    if 15 < replicas {
+    if MOST_REPLICAS < replicas {
         return false;
     }
     if clients < 1 {
         return false;
     }
-    if 8 < clients {
+    if MOST_CLIENTS < clients {
         return false;
     }
     if cells < 1 {
         return false;
     }
-    cells <= 16
+    cells <= MOST_CELLS
 }
 
 // A client that has done nothing yet.
@@ -72,8 +81,8 @@ fn fresh(replicas: u8, clients: u8, cells: u8) -> Rack
     };
     let sizes = sizes_of(replicas, clients, cells);
     let power = quorum::every(replicas);
-    let parties = [party; 8];
-    let pairs = [pair; 240];
+    let parties = [party; Client::LIMIT];
+    let pairs = [pair; Rack::PAIRS];
     let wire = [slot; Rack::SLOTS];
     let lines = [line; Rack::ENTRIES];
     Rack {
@@ -88,10 +97,12 @@ fn fresh(replicas: u8, clients: u8, cells: u8) -> Rack
 }
 
 impl Rack {
-    // How many slots a wire has, and how many entries a record holds at most.
+    // How many slots a wire has, how many entries a record holds at most, and how many pairs there are places for.
     pub const SLOTS: usize = slots::SLOTS;
 
     pub const ENTRIES: usize = record::ENTRY_LIMIT;
+
+    pub const PAIRS: usize = Replica::LIMIT * Cell::LIMIT;
 
     // The fresh rack of these sizes; where one is out of range, that is refused 1 and the fresh rack is of sizes 1, 1, 1.
     pub fn made(replicas: u32, clients: u32, cells: u32) -> Made

@@ -1,9 +1,11 @@
 // The answers that clients owe.
 ghost use mathlib.Core.Path.{_≡_};
 ghost use Prim.Native.Nat.{min, _≤_};
+ghost use Rattle.record.specs.Entry.{clientLimit};
 ghost use Rattle.rack.specs.Sound.{owedIn, owes, owedBy};
 use method::Party;
 use method::Work;
+use record::Client;
 
 fn owes(work: Work) -> usize
     ensures { λ r. ⌜ (r ≡ owes work) × (r ≤ 1) ⌝ }
@@ -36,20 +38,24 @@ pub fn owed_by(party: Party) -> usize
     owes(work)
 }
 
-fn at_most_eight(clients: u8) -> usize
-    ensures { λ r. ⌜ r ≡ min clients 8 ⌝ }
+// The limit of clients, as a number of their kind.
+const MOST_CLIENTS: u8 = Client::LIMIT as u8;
+
+// No more clients than there are places for.
+fn capped(clients: u8) -> usize
+    ensures { λ r. ⌜ r ≡ min clients clientLimit ⌝ }
 {
-    if clients < 8 {
+    if clients < MOST_CLIENTS {
         return clients as usize;
     }
-    8
+    Client::LIMIT
 }
 
 // Answers owed: one for each open operation of a client not stopped.
-pub fn owed_by_all(parties: [Party; 8], clients: u8) -> usize
+pub fn owed_by_all(parties: [Party; Client::LIMIT], clients: u8) -> usize
     ensures { λ r. ⌜ r ≡ owedIn clients parties ⌝ }
 {
-    let n = at_most_eight(clients);
+    let n = capped(clients);
     let mut owed: usize = 0;
     let mut i: usize = 0;
     while i < n {

@@ -37,28 +37,28 @@ fn read_up_to(s: &[u8], at: usize, limit: u32, refusal: u8) -> Number
 }
 
 // What follows an entry's kind and client.
-fn read_fields(s: &[u8], at: usize, kind: u32, client: u8) -> Found
-    ensures { λ r. ⌜ r ≡ fieldsAt (now (s .entry)) at kind client ⌝ }
+fn read_fields(s: &[u8], at: usize, kind: u32, client: Client) -> Found
+    ensures { λ r. ⌜ r ≡ fieldsAt (now (s .entry)) at kind (client .0) ⌝ }
 {
     if kind == 3 {
-        return Found::At(Entry::Done(Client(client)), at);
+        return Found::At(Entry::Done(client), at);
     }
     if kind == 2 {
         return match number::read_number(s, at) {
             Number::Refused(k) => Found::Fault(k),
-            Number::Is(v, next) => Found::At(Entry::Told(Client(client), number::signed(v)), next),
+            Number::Is(v, next) => Found::At(Entry::Told(client, number::signed(v)), next),
         };
     }
-    match read_up_to(s, at, 15, 25) {
+    match read_up_to(s, at, Cell::LAST, 25) {
         Number::Refused(k) => Found::Fault(k),
         Number::Is(cell, next) => {
             if kind == 0 {
-                return Found::At(Entry::ReadAsked(Client(client), Cell(cell as u8)), next);
+                return Found::At(Entry::ReadAsked(client, Cell(cell as u8)), next);
             }
             match number::read_number(s, next) {
                 Number::Refused(k) => Found::Fault(k),
                 Number::Is(v, last) => Found::At(
-                    Entry::WriteAsked(Client(client), Cell(cell as u8), number::signed(v)),
+                    Entry::WriteAsked(client, Cell(cell as u8), number::signed(v)),
                     last,
                 ),
             }
@@ -72,9 +72,9 @@ fn read_entry(s: &[u8], at: usize) -> Found
 {
     match read_up_to(s, at, 3, 24) {
         Number::Refused(k) => Found::Fault(k),
-        Number::Is(kind, next) => match read_up_to(s, next, 7, 25) {
+        Number::Is(kind, next) => match read_up_to(s, next, Client::LAST, 25) {
             Number::Refused(k) => Found::Fault(k),
-            Number::Is(client, more) => read_fields(s, more, kind, client as u8),
+            Number::Is(client, more) => read_fields(s, more, kind, Client(client as u8)),
         },
     }
 }

@@ -1,5 +1,5 @@
 -- An entry: its kind and then its fields, each a number. The paper: "The record and its bytes".
-use Prim.Native.Nat.{ℕ}
+use Prim.Native.Nat.{ℕ, _-_}
 use mathlib.Core.List.{List, _++_}
 use mathlib.Core.Bool.{cond}
 use lib.Dec.{ltb, eqb}
@@ -11,6 +11,22 @@ use Rattle.record.specs.declared.Entry.{Entry}
 use Rattle.record.specs.declared.Entry.the-variants.{ReadAsked, WriteAsked, Told, Done}
 use Rattle.record.specs.declared.Found.{Found}
 use Rattle.record.specs.declared.Found.the-variants.{At, Fault}
+
+-- a rack has at most 8 clients, numbered from 0
+abbrev pub clientLimit : ℕ
+clientLimit = 8
+
+-- the greatest number of a client
+abbrev pub lastClient : ℕ
+lastClient = clientLimit - 1
+
+-- a rack has at most 16 cells, numbered from 0
+abbrev pub cellLimit : ℕ
+cellLimit = 16
+
+-- the greatest number of a cell
+abbrev pub lastCell : ℕ
+lastCell = cellLimit - 1
 
 -- 0 read asked (client, cell); 1 write asked (client, cell, value); 2 told (client, value); 3 done (client)
 unfoldable pub entryBytes : Entry → List ℕ
@@ -29,7 +45,7 @@ unfoldable pub fieldsAt : List ℕ → ℕ → ℕ → ℕ → Found
 fieldsAt s at kind client =
     cond (eqb kind 3) (At (Done (record { 0 = client })) at)
     (cond (eqb kind 2) (andThen Fault (numberAt s at) (λ v next. At (Told (record { 0 = client }) (signedOf v)) next))
-    (andThen Fault (upTo 15 25 (numberAt s at)) (λ cell next.
+    (andThen Fault (upTo lastCell 25 (numberAt s at)) (λ cell next.
     cond (eqb kind 0) (At (ReadAsked (record { 0 = client }) (record { 0 = cell })) next)
     (andThen Fault (numberAt s next) (λ v last. At (WriteAsked (record { 0 = client }) (record { 0 = cell }) (signedOf v)) last)))))
 
@@ -37,5 +53,5 @@ fieldsAt s at kind client =
 unfoldable pub entryAt : List ℕ → ℕ → Found
 entryAt s at =
     andThen Fault (upTo 3 24 (numberAt s at)) (λ kind next.
-    andThen Fault (upTo 7 25 (numberAt s next)) (λ client more.
+    andThen Fault (upTo lastClient 25 (numberAt s next)) (λ client more.
     fieldsAt s more kind client))

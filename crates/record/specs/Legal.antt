@@ -9,14 +9,15 @@ use mir.Val.{SFits}
 use Rattle.record.specs.declared.Entry.{Entry}
 use Rattle.record.specs.declared.Entry.the-variants.{ReadAsked, WriteAsked, Told, Done}
 use Rattle.record.specs.declared.Standing.{Standing}
+use Rattle.record.specs.Entry.{lastClient, lastCell}
 use Rattle.record.specs.Record.{entryLimit, fresh, faultAfter, standingAfter}
 
 -- client at most 7, cell at most 15, a value of 32 bits
 abbrev pub InRange : Entry → Type 0
-InRange (ReadAsked client cell) = (client .0 ≤ 7) × (cell .0 ≤ 15)
-InRange (WriteAsked client cell v) = (client .0 ≤ 7) × (cell .0 ≤ 15) × SFits w32 v
-InRange (Told client v) = (client .0 ≤ 7) × SFits w32 v
-InRange (Done client) = client .0 ≤ 7
+InRange (ReadAsked client cell) = (client .0 ≤ lastClient) × (cell .0 ≤ lastCell)
+InRange (WriteAsked client cell v) = (client .0 ≤ lastClient) × (cell .0 ≤ lastCell) × SFits w32 v
+InRange (Told client v) = (client .0 ≤ lastClient) × SFits w32 v
+InRange (Done client) = client .0 ≤ lastClient
 
 -- each entry is in range and is no 26 or 27 after those before it
 abbrev pub Follows : Standing → List Entry → Type 0

@@ -12,6 +12,25 @@ pub struct Replica(pub u8);
 
 pub struct Cell(pub u8);
 
+impl Client {
+    // How many clients a rack has at most, and the greatest number of one.
+    pub const LIMIT: usize = 8;
+
+    pub const LAST: u32 = (Client::LIMIT - 1) as u32;
+}
+
+impl Replica {
+    // How many replicas a rack has at most.
+    pub const LIMIT: usize = 15;
+}
+
+impl Cell {
+    // How many cells a rack has at most, and the greatest number of one.
+    pub const LIMIT: usize = 16;
+
+    pub const LAST: u32 = (Cell::LIMIT - 1) as u32;
+}
+
 // An entry of the record.
 pub enum Entry {
     ReadAsked(Client, Cell),
@@ -28,7 +47,7 @@ pub enum Found {
 
 // What each client has open: nothing is 0, a read 1, a write 2.
 pub struct Standing {
-    pub has: [u8; 8],
+    pub has: [u8; Client::LIMIT],
 }
 
 // What reading or writing a record gives: how many entries or bytes, or the refusal with its entry's number.
@@ -41,22 +60,22 @@ pub enum Answer {
 pub const ENTRY_LIMIT: usize = 2048;
 
 // What a client has open. The array is a parameter, so that its length is known.
-fn open_by(has: [u8; 8], client: u8) -> u8
-    ensures { λ r. ⌜ r ≡ getD has client 0 ⌝ }
+fn open_by(has: [u8; Client::LIMIT], client: Client) -> u8
+    ensures { λ r. ⌜ r ≡ getD has (client .0) 0 ⌝ }
 {
-    let at = client as usize;
-    if 8 <= at {
+    let at = client.0 as usize;
+    if Client::LIMIT <= at {
         return 0;
     }
     has[at]
 }
 
 // The same with another thing open; a client that isn't there changes nothing.
-fn opened(has: [u8; 8], client: u8, what: u8) -> [u8; 8]
-    ensures { λ r. ⌜ r ≡ set has client what ⌝ }
+fn opened(has: [u8; Client::LIMIT], client: Client, what: u8) -> [u8; Client::LIMIT]
+    ensures { λ r. ⌜ r ≡ set has (client .0) what ⌝ }
 {
-    let at = client as usize;
-    if 8 <= at {
+    let at = client.0 as usize;
+    if Client::LIMIT <= at {
         return has;
     }
     let mut next = has;
@@ -65,8 +84,8 @@ fn opened(has: [u8; 8], client: u8, what: u8) -> [u8; 8]
 }
 
 // 0, or the refusal of a client that must have just this open.
-fn unless_open(has: [u8; 8], client: u8, what: u8, refusal: u8) -> u8
-    ensures { λ r. ⌜ r ≡ cond (eqb (getD has client 0) what) 0 refusal ⌝ }
+fn unless_open(has: [u8; Client::LIMIT], client: Client, what: u8, refusal: u8) -> u8
+    ensures { λ r. ⌜ r ≡ cond (eqb (getD has (client .0) 0) what) 0 refusal ⌝ }
 {
     if open_by(has, client) == what {
         0
@@ -80,7 +99,9 @@ impl Standing {
     pub fn fresh() -> Standing
         ensures { λ r. ⌜ r ≡ fresh ⌝ }
     {
-        Standing { has: [0u8; 8] }
+        Standing {
+            has: [0u8; Client::LIMIT],
+        }
     }
 
     // 26 or 27 if the entry may not come now, else 0.
@@ -89,10 +110,10 @@ impl Standing {
     {
         let has = self.has;
         match e {
-            Entry::ReadAsked(client, _) => unless_open(has, client.0, 0, 26),
-            Entry::WriteAsked(client, _, _) => unless_open(has, client.0, 0, 26),
-            Entry::Told(client, _) => unless_open(has, client.0, 1, 27),
-            Entry::Done(client) => unless_open(has, client.0, 2, 27),
+            Entry::ReadAsked(client, _) => unless_open(has, client, 0, 26),
+            Entry::WriteAsked(client, _, _) => unless_open(has, client, 0, 26),
+            Entry::Told(client, _) => unless_open(has, client, 1, 27),
+            Entry::Done(client) => unless_open(has, client, 2, 27),
         }
     }
 
@@ -103,16 +124,16 @@ impl Standing {
         let has = self.has;
         match e {
             Entry::ReadAsked(client, _) => Standing {
-                has: opened(has, client.0, 1),
+                has: opened(has, client, 1),
             },
             Entry::WriteAsked(client, _, _) => Standing {
-                has: opened(has, client.0, 2),
+                has: opened(has, client, 2),
             },
             Entry::Told(client, _) => Standing {
-                has: opened(has, client.0, 0),
+                has: opened(has, client, 0),
             },
             Entry::Done(client) => Standing {
-                has: opened(has, client.0, 0),
+                has: opened(has, client, 0),
             },
         }
     }

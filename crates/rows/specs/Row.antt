@@ -10,6 +10,7 @@ use Rattle.record.specs.declared.Entry.{Entry}
 use Rattle.record.specs.declared.Entry.the-variants.{ReadAsked, WriteAsked, Told, Done}
 use Rattle.record.specs.declared.Found.{Found}
 use Rattle.record.specs.declared.Found.the-variants.{At, Fault}
+use Rattle.record.specs.Entry.{lastClient, lastCell}
 
 -- an entry in memory is a row of four numbers: kind, client, cell, value as it is written; a field its kind hasn't got stands as 0
 unfoldable pub rowOf : Entry → List ℕ
@@ -38,7 +39,7 @@ entryOf kind client cell value =
 unfoldable pub rowFound : ℕ → ℕ → ℕ → ℕ → ℕ → Found
 rowFound kind client cell value next =
     cond (ltb 3 kind) (Fault 24)
-    (cond (ltb 7 client || (ltb kind 2 && ltb 15 cell)) (Fault 25)
+    (cond (ltb lastClient client || (ltb kind 2 && ltb lastCell cell)) (Fault 25)
     (At (entryOf kind client cell value) next))
 
 -- what the row at place at of ws gives

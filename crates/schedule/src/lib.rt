@@ -6,7 +6,7 @@ ghost use Prim.Native.Nat.{_+_, _-_, _*_, _<_, _≤_};
 ghost use lib.Count.{ones};
 ghost use lib.ListN.{length};
 ghost use Rattle.slots.specs.Words.{Maps};
-ghost use Rattle.rack.specs.Places.{isEmpty, freeAt, roomOf};
+ghost use Rattle.rack.specs.Places.{slotLimit, isEmpty, freeAt, roomOf};
 ghost use Rattle.rack.specs.Sound.{soundOf};
 ghost use Rattle.rack.specs.Run.{freed, ranOf, runFrom, runOf};
 ghost use Rattle.runs.specs.laws.Steps.{nthEvent};
@@ -33,16 +33,19 @@ use record::Replica;
 
 // ---- the events
 
+// How many words an event is.
+pub const EVENT_WORDS: usize = 4;
+
 // Event i of the words.
 fn event_at(events: &[u32], i: usize) -> Event
     requires { do ⌜ 4 * i + 4 ≤ (← ⟦events.len()⟧) ⌝ }
     ensures { λ r. ⌜ r ≡ nthEvent (now (events .entry)) i ⌝ }
 {
     decode(
-        events[4 * i],
-        events[4 * i + 1],
-        events[4 * i + 2],
-        events[4 * i + 3],
+        events[EVENT_WORDS * i],
+        events[EVENT_WORDS * i + 1],
+        events[EVENT_WORDS * i + 2],
+        events[EVENT_WORDS * i + 3],
     )
 }
 
@@ -50,24 +53,24 @@ fn event_at(events: &[u32], i: usize) -> Event
 fn most(allowance: usize, words: usize) -> usize
     ensures { λ r. ⌜ Most allowance words r ⌝ }
 {
-    if allowance <= words / 4 {
+    if allowance <= words / EVENT_WORDS {
         return allowance;
     }
-    words / 4
+    words / EVENT_WORDS
 }
 
 // ---- what is sent
 
 // The message to replica k.
-fn message_to(m: Message, k: u8) -> Message
-    ensures { λ r. ⌜ r ≡ messageTo m k ⌝ }
+fn message_to(m: Message, k: Replica) -> Message
+    ensures { λ r. ⌜ r ≡ messageTo m (k .0) ⌝ }
 {
     let client = m.client;
     let cell = m.cell;
     let body = m.body;
     Message {
         client: client,
-        replica: Replica(k),
+        replica: k,
         cell: cell,
         op: m.op,
         body: body,
@@ -87,7 +90,7 @@ fn slot_after(clear: bool, slot: Slot) -> Slot
 
 // How many slots are free after the event's was cleared and a message went to each replica of a set.
 fn room_after(room: usize, clear: bool, to: u16) -> usize
-    requires { ⌜ (ones to ≤ room + freed clear) × (room ≤ 256) ⌝ }
+    requires { ⌜ (ones to ≤ room + freed clear) × (room ≤ slotLimit) ⌝ }
     ensures { λ r. ⌜ r ≡ room + freed clear - ones to ⌝ }
 {
     let sent = quorum::count(to) as usize;
@@ -101,7 +104,7 @@ fn room_after(room: usize, clear: bool, to: u16) -> usize
 
 // Which slots of the wire are free, and how many.
 struct Start {
-    free: [u64; 4],
+    free: [u64; slots::WORDS],
     room: usize,
 }
 
@@ -117,7 +120,7 @@ fn is_empty(held: InSlot) -> bool
 fn start_of(rack: Rack) -> Start
     ensures { λ s. ⌜ (Maps (freeAt (rack .wire)) (s .free)) × (s .room ≡ roomOf (rack .wire)) ⌝ }
 {
-    let mut free = [0u64; 4];
+    let mut free = [0u64; slots::WORDS];
     let mut i: usize = 0;
     while i < Rack::SLOTS {
         let slot = rack.wire[i];
@@ -133,7 +136,7 @@ fn start_of(rack: Rack) -> Start
 
 // Says how long a wire is: only of a parameter does the check know it.
 fn long(wire: [Slot; Rack::SLOTS]) -> usize
-    ensures { λ r. ⌜ length wire ≡ 256 ⌝ }
+    ensures { λ r. ⌜ length wire ≡ slotLimit ⌝ }
 {
     0
 }
@@ -237,7 +240,7 @@ pub fn run(rack: Rack, allowance: usize, events: &[u32]) -> Ran
     if allowance == 0 {
         return ran(0, 0, rack);
     }
-    if events.len() < 4 {
+    if events.len() < EVENT_WORDS {
         return ran(0, 0, rack);
     }
     if soundness::sound(rack) {

@@ -6,11 +6,11 @@ ghost use lib.ListN.{getD, take};
 ghost use Rattle.number.specs.Number.{numberBytes};
 ghost use Rattle.text.specs.Text.{field, refusedWord, lineFeed, hexText, Printed};
 ghost use Rattle.record.specs.Entry.{entryBytes};
-ghost use Rattle.record.specs.Record.{bytesOf};
+ghost use Rattle.record.specs.Record.{entryLimit, bytesOf};
 ghost use Rattle.quorum.specs.Sets.{hasReplica};
 ghost use Rattle.rack.specs.declared.Line.{Line};
 ghost use Rattle.stamps.specs.Stamp.{freshPair};
-ghost use Rattle.rack.specs.Places.{idle, pairPlace, heldIn};
+ghost use Rattle.rack.specs.Places.{slotLimit, idle, pairPlace, heldIn};
 ghost use Rattle.lines.specs.Words.{doneStart, space, pairWord, askingWord, keepingWord};
 ghost use Rattle.lines.specs.Lines.{eachBelow, pairText, kindText, bodyPair, namesText, messageText, slotLine, goalText, memberText, membersText, openText, heldText, firstHeld};
 ghost use Rattle.lines.specs.Lines.{workText, stoppedText, clientLine, powerText, replicaLine, sizesLine, recordLine, rackText, refusalText, ranText, faultLine};
@@ -26,6 +26,7 @@ use rack::Ran;
 use rack::Sizes;
 use rack::Slot;
 use record::Cell;
+use record::Client;
 use record::Entry;
 use record::Replica;
 use stamps::Pair;
@@ -80,12 +81,19 @@ fn put_body_pair(out: &mut [u8], at: usize, body: Body) -> usize
 }
 
 // Between whom a message goes, about which cell, for which operation.
-fn put_names(out: &mut [u8], at: usize, client: u8, replica: u8, cell: u8, op: u16) -> usize
-    ensures { λ r. ⌜ Printed (now (out .entry)) at (namesText client replica cell op) r (now (out .exit)) ⌝ }
+fn put_names(
+    out: &mut [u8],
+    at: usize,
+    client: Client,
+    replica: Replica,
+    cell: Cell,
+    op: u16,
+) -> usize
+    ensures { λ r. ⌜ Printed (now (out .entry)) at (namesText (client .0) (replica .0) (cell .0) op) r (now (out .exit)) ⌝ }
 {
-    let a = put_field(out, at, b" client ", client as usize);
-    let b = put_field(out, a, b" replica ", replica as usize);
-    let c = put_field(out, b, b" cell ", cell as usize);
+    let a = put_field(out, at, b" client ", client.0 as usize);
+    let b = put_field(out, a, b" replica ", replica.0 as usize);
+    let c = put_field(out, b, b" cell ", cell.0 as usize);
     put_field(out, c, b" op ", op as usize)
 }
 
@@ -97,7 +105,7 @@ fn put_message(out: &mut [u8], at: usize, m: Message) -> usize
     let cell = m.cell;
     let body = m.body;
     let a = put_kind(out, at, body);
-    let b = put_names(out, a, client.0, replica.0, cell.0, m.op);
+    let b = put_names(out, a, client, replica, cell, m.op);
     put_body_pair(out, b, body)
 }
 
@@ -115,12 +123,12 @@ fn put_slot(out: &mut [u8], at: usize, i: usize, held: InSlot) -> usize
     }
 }
 
-fn put_wire(out: &mut [u8], at: usize, wire: [Slot; 256]) -> usize
-    ensures { λ r. ⌜ Printed (now (out .entry)) at (eachBelow 256 (λ i. slotLine i (heldIn wire i))) r (now (out .exit)) ⌝ }
+fn put_wire(out: &mut [u8], at: usize, wire: [Slot; Rack::SLOTS]) -> usize
+    ensures { λ r. ⌜ Printed (now (out .entry)) at (eachBelow slotLimit (λ i. slotLine i (heldIn wire i))) r (now (out .exit)) ⌝ }
 {
     let mut next = at;
     let mut i: usize = 0;
-    while i < 256 {
+    while i < Rack::SLOTS {
         let slot = wire[i];
         let held = slot.held;
         next = put_slot(out, next, i, held);
@@ -143,11 +151,11 @@ fn put_goal(out: &mut [u8], at: usize, goal: Goal) -> usize
     }
 }
 
-fn put_member(out: &mut [u8], at: usize, set: u16, k: u8) -> usize
-    ensures { λ r. ⌜ Printed (now (out .entry)) at (memberText set k) r (now (out .exit)) ⌝ }
+fn put_member(out: &mut [u8], at: usize, set: u16, k: Replica) -> usize
+    ensures { λ r. ⌜ Printed (now (out .entry)) at (memberText set (k .0)) r (now (out .exit)) ⌝ }
 {
-    if quorum::has(set, Replica(k)) {
-        return put_field(out, at, b" ", k as usize);
+    if quorum::has(set, k) {
+        return put_field(out, at, b" ", k.0 as usize);
     }
     at
 }
@@ -161,19 +169,19 @@ fn put_members(out: &mut [u8], at: usize, set: u16) -> usize
     }
     let mut next = at;
     let mut k: u8 = 0;
-    while k < 16 {
-        next = put_member(out, next, set, k);
+    while k < quorum::SET_BITS {
+        next = put_member(out, next, set, Replica(k));
         k += 1;
     }
     next
 }
 
 // What an open operation is for, and who has answered.
-fn put_open(out: &mut [u8], at: usize, op: u16, cell: u8, goal: Goal, set: u16) -> usize
-    ensures { λ r. ⌜ Printed (now (out .entry)) at (openText op cell goal set) r (now (out .exit)) ⌝ }
+fn put_open(out: &mut [u8], at: usize, op: u16, cell: Cell, goal: Goal, set: u16) -> usize
+    ensures { λ r. ⌜ Printed (now (out .entry)) at (openText op (cell .0) goal set) r (now (out .exit)) ⌝ }
 {
     let a = put_goal(out, at, goal);
-    let b = put_field(out, a, b" cell ", cell as usize);
+    let b = put_field(out, a, b" cell ", cell.0 as usize);
     let c = put_field(out, b, b" op ", op as usize);
     let d = put_words(out, c, b" from");
     put_members(out, d, set)
@@ -208,7 +216,7 @@ fn put_asking(
     ensures { λ r. ⌜ Printed (now (out .entry)) at (askingWord ++ (openText op (cell .0) goal set ++ firstHeld set held)) r (now (out .exit)) ⌝ }
 {
     let a = put_words(out, at, b" asking");
-    let b = put_open(out, a, op, cell.0, goal, set);
+    let b = put_open(out, a, op, cell, goal, set);
     put_first_held(out, b, set, held)
 }
 
@@ -224,7 +232,7 @@ fn put_keeping(
     ensures { λ r. ⌜ Printed (now (out .entry)) at (keepingWord ++ (openText op (cell .0) goal set ++ heldText held)) r (now (out .exit)) ⌝ }
 {
     let a = put_words(out, at, b" keeping");
-    let b = put_open(out, a, op, cell.0, goal, set);
+    let b = put_open(out, a, op, cell, goal, set);
     put_held(out, b, held)
 }
 
@@ -257,21 +265,21 @@ fn put_stopped(out: &mut [u8], at: usize, stopped: bool) -> usize
     at
 }
 
-fn put_client(out: &mut [u8], at: usize, i: usize, party: Party) -> usize
-    ensures { λ r. ⌜ Printed (now (out .entry)) at (clientLine i party) r (now (out .exit)) ⌝ }
+fn put_client(out: &mut [u8], at: usize, client: Client, party: Party) -> usize
+    ensures { λ r. ⌜ Printed (now (out .entry)) at (clientLine (client .0) party) r (now (out .exit)) ⌝ }
 {
     let work = party.work;
-    let a = put_field(out, at, b"client ", i);
+    let a = put_field(out, at, b"client ", client.0 as usize);
     let b = put_stopped(out, a, party.stopped);
     let c = put_work(out, b, party.op, work);
     put_words(out, c, b"\n")
 }
 
 // Client i; one that has done nothing where there is no such place.
-fn party_at(parties: [Party; 8], i: usize) -> Party
+fn party_at(parties: [Party; Client::LIMIT], i: usize) -> Party
     ensures { λ r. ⌜ r ≡ getD parties i idle ⌝ }
 {
-    if i < 8 {
+    if i < Client::LIMIT {
         return parties[i];
     }
     Party {
@@ -281,14 +289,14 @@ fn party_at(parties: [Party; 8], i: usize) -> Party
     }
 }
 
-fn put_clients(out: &mut [u8], at: usize, parties: [Party; 8], clients: u8) -> usize
+fn put_clients(out: &mut [u8], at: usize, parties: [Party; Client::LIMIT], clients: u8) -> usize
     ensures { λ r. ⌜ Printed (now (out .entry)) at (eachBelow clients (λ i. clientLine i (getD parties i idle))) r (now (out .exit)) ⌝ }
 {
     let mut next = at;
     let mut i: u8 = 0;
     while i < clients {
         let place = i as usize;
-        next = put_client(out, next, place, party_at(parties, place));
+        next = put_client(out, next, Client(i), party_at(parties, place));
         i += 1;
     }
     next
@@ -297,51 +305,51 @@ fn put_clients(out: &mut [u8], at: usize, parties: [Party; 8], clients: u8) -> u
 // ---- a replica's line
 
 // The pair at a place; the fresh one where there is no such place.
-fn pair_at(pairs: [Pair; 240], place: usize) -> Pair
+fn pair_at(pairs: [Pair; Rack::PAIRS], place: usize) -> Pair
     ensures { λ r. ⌜ r ≡ getD pairs place freshPair ⌝ }
 {
-    if place < 240 {
+    if place < Rack::PAIRS {
         return pairs[place];
     }
     fresh_pair()
 }
 
 // A replica's pair for one cell.
-fn put_cell(out: &mut [u8], at: usize, pairs: [Pair; 240], k: u8, x: u8) -> usize
-    ensures { λ r. ⌜ Printed (now (out .entry)) at (space ++ pairText (getD pairs (pairPlace k x) freshPair)) r (now (out .exit)) ⌝ }
+fn put_cell(out: &mut [u8], at: usize, pairs: [Pair; Rack::PAIRS], k: Replica, x: Cell) -> usize
+    ensures { λ r. ⌜ Printed (now (out .entry)) at (space ++ pairText (getD pairs (pairPlace (k .0) (x .0)) freshPair)) r (now (out .exit)) ⌝ }
 {
-    let pair = pair_at(pairs, 16 * (k as usize) + (x as usize));
+    let pair = pair_at(pairs, Cell::LIMIT * (k.0 as usize) + (x.0 as usize));
     let next = put_words(out, at, b" ");
     put_pair(out, next, pair)
 }
 
-fn put_pairs(out: &mut [u8], at: usize, pairs: [Pair; 240], k: u8, cells: u8) -> usize
-    ensures { λ r. ⌜ Printed (now (out .entry)) at (eachBelow cells (λ x. space ++ pairText (getD pairs (pairPlace k x) freshPair))) r (now (out .exit)) ⌝ }
+fn put_pairs(out: &mut [u8], at: usize, pairs: [Pair; Rack::PAIRS], k: Replica, cells: u8) -> usize
+    ensures { λ r. ⌜ Printed (now (out .entry)) at (eachBelow cells (λ x. space ++ pairText (getD pairs (pairPlace (k .0) x) freshPair))) r (now (out .exit)) ⌝ }
 {
     let mut next = at;
     let mut x: u8 = 0;
     while x < cells {
-        next = put_cell(out, next, pairs, k, x);
+        next = put_cell(out, next, pairs, k, Cell(x));
         x += 1;
     }
     next
 }
 
-fn put_power(out: &mut [u8], at: usize, power: u16, k: u8) -> usize
-    ensures { λ r. ⌜ Printed (now (out .entry)) at (powerText (hasReplica power k)) r (now (out .exit)) ⌝ }
+fn put_power(out: &mut [u8], at: usize, power: u16, k: Replica) -> usize
+    ensures { λ r. ⌜ Printed (now (out .entry)) at (powerText (hasReplica power (k .0))) r (now (out .exit)) ⌝ }
 {
-    if quorum::has(power, Replica(k)) {
+    if quorum::has(power, k) {
         return put_words(out, at, b" on");
     }
     put_words(out, at, b" off")
 }
 
-fn put_replica(out: &mut [u8], at: usize, rack: Rack, k: u8) -> usize
-    ensures { λ r. ⌜ Printed (now (out .entry)) at (replicaLine rack k) r (now (out .exit)) ⌝ }
+fn put_replica(out: &mut [u8], at: usize, rack: Rack, k: Replica) -> usize
+    ensures { λ r. ⌜ Printed (now (out .entry)) at (replicaLine rack (k .0)) r (now (out .exit)) ⌝ }
 {
     let sizes = rack.sizes;
     let pairs = rack.pairs;
-    let a = put_field(out, at, b"replica ", k as usize);
+    let a = put_field(out, at, b"replica ", k.0 as usize);
     let b = put_power(out, a, rack.power, k);
     let c = put_pairs(out, b, pairs, k, sizes.cells);
     put_words(out, c, b"\n")
@@ -355,7 +363,7 @@ fn put_replicas(out: &mut [u8], at: usize, rack: Rack) -> usize
     let mut next = at;
     let mut k: u8 = 0;
     while k < n {
-        next = put_replica(out, next, rack, k);
+        next = put_replica(out, next, rack, Replica(k));
         k += 1;
     }
     next
@@ -405,15 +413,15 @@ fn put_entry(out: &mut [u8], at: usize, e: Entry) -> usize
 
 // How many entries stand in the record's places.
 fn entries_in(count: usize) -> usize
-    ensures { λ r. ⌜ r ≡ min count 2048 ⌝ }
+    ensures { λ r. ⌜ r ≡ min count entryLimit ⌝ }
 {
-    if count < 2048 {
+    if count < Rack::ENTRIES {
         return count;
     }
-    2048
+    Rack::ENTRIES
 }
 
-fn put_entries(out: &mut [u8], at: usize, lines: [Line; 2048], count: usize) -> usize
+fn put_entries(out: &mut [u8], at: usize, lines: [Line; Rack::ENTRIES], count: usize) -> usize
     ensures { λ r. ⌜ Printed (now (out .entry)) at (hexText (bytesOf (map (λ (l : Line). l .entry) (take count lines)))) r (now (out .exit)) ⌝ }
 {
     let n = entries_in(count);

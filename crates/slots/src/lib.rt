@@ -6,10 +6,12 @@ ghost use lib.Count.{ones, trailingZeros};
 ghost use Rattle.slots.specs.Free.{slotCount, firstFree, countFree, givenAt, markedAt};
 ghost use Rattle.slots.specs.Words.{Maps, Took};
 
-// How many words there are, and how many slots: 64 for each word.
+// How many words there are, how many bits a word has, and how many slots there are: one for each bit.
 pub const WORDS: usize = 4;
 
-pub const SLOTS: usize = 64 * WORDS;
+const BITS: usize = 64;
+
+pub const SLOTS: usize = BITS * WORDS;
 
 // The lowest bit of x that is set.
 fn low(x: u64) -> usize
@@ -43,7 +45,7 @@ pub fn lowest(free: &[u64; WORDS]) -> usize
     while j < WORDS {
         let word = free[j];
         if 0 < word {
-            return 64 * j + low(word);
+            return BITS * j + low(word);
         }
         j += 1;
     }
@@ -59,7 +61,7 @@ pub fn take(free: &mut [u64; WORDS]) -> usize
         let x = free[j];
         if 0 < x {
             free[j] = rest(x);
-            return 64 * j + low(x);
+            return BITS * j + low(x);
         }
         j += 1;
     }
@@ -73,8 +75,8 @@ pub fn give(free: &mut [u64; WORDS], slot: usize)
     if SLOTS <= slot {
         return;
     }
-    let j = slot / 64;
-    let k = slot % 64;
+    let j = slot / BITS;
+    let k = slot % BITS;
     free[j] = free[j] | (1u64 << k);
 }
 

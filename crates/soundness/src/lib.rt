@@ -2,7 +2,8 @@
 ghost use mathlib.Core.Path.{_≡_};
 ghost use mathlib.Core.Bool.{true};
 ghost use Prim.Native.Nat.{_<_, _≤_};
-ghost use Rattle.rack.specs.Places.{pairAt};
+ghost use Rattle.record.specs.Entry.{clientLimit, cellLimit};
+ghost use Rattle.rack.specs.Places.{replicaLimit, pairAt};
 ghost use Rattle.rack.specs.Sound.{allBelow, sizesFit, pairFits, bodyFits, messageFits, heldFits, toldFits, askFits, keepFits, workFits, wireFits, pairsFit, partiesFit};
 ghost use Rattle.rack.specs.Sound.{recordFits, soundOf};
 use method::Body;
@@ -154,14 +155,14 @@ fn wire_fits(rack: Rack) -> bool
 
 // A replica's pair for every cell.
 fn replica_fits(rack: Rack, k: usize) -> bool
-    requires { ⌜ (k < 15) × (rack .sizes .cells ≤ 16) ⌝ }
+    requires { ⌜ (k < replicaLimit) × (rack .sizes .cells ≤ cellLimit) ⌝ }
     ensures { λ r. ⌜ r ≡ allBelow (rack .sizes .cells) (λ x. pairFits (rack .sizes) (pairAt rack k x)) ⌝ }
 {
     let sizes = rack.sizes;
     let n = sizes.cells as usize;
     let mut x: usize = 0;
     while x < n {
-        let pair = rack.pairs[16 * k + x];
+        let pair = rack.pairs[Cell::LIMIT * k + x];
         if !pair_fits(sizes, pair) {
             return false;
         }
@@ -172,7 +173,7 @@ fn replica_fits(rack: Rack, k: usize) -> bool
 
 // Every replica's pair for every cell.
 fn pairs_fit(rack: Rack) -> bool
-    requires { ⌜ (rack .sizes .replicas ≤ 15) × (rack .sizes .cells ≤ 16) ⌝ }
+    requires { ⌜ (rack .sizes .replicas ≤ replicaLimit) × (rack .sizes .cells ≤ cellLimit) ⌝ }
     ensures { λ r. ⌜ r ≡ pairsFit rack ⌝ }
 {
     let sizes = rack.sizes;
@@ -189,7 +190,7 @@ fn pairs_fit(rack: Rack) -> bool
 
 // Every client's open operation.
 fn parties_fit(rack: Rack) -> bool
-    requires { ⌜ rack .sizes .clients ≤ 8 ⌝ }
+    requires { ⌜ rack .sizes .clients ≤ clientLimit ⌝ }
     ensures { λ r. ⌜ r ≡ partiesFit rack ⌝ }
 {
     let sizes = rack.sizes;
@@ -206,7 +207,7 @@ fn parties_fit(rack: Rack) -> bool
     true
 }
 
-// Entries and answers owed don't exceed 2,048.
+// Entries and answers owed don't exceed what a record holds.
 fn record_fits(rack: Rack) -> bool
     ensures { λ r. ⌜ r ≡ recordFits rack ⌝ }
 {

@@ -1,9 +1,14 @@
 -- Stamps and pairs. The paper: "The rack", and *Keep* of "What each event does".
+use Prim.Native.Nat.{ℕ}
 use mathlib.Core.Bool.{Bool, cond, _||_, _&&_}
 use lib.Dec.{ltb, eqb}
 use lib.IntN.{pos}
 use Rattle.stamps.specs.declared.Stamp.{Stamp}
 use Rattle.stamps.specs.declared.Pair.{Pair}
+
+-- a stamp's number is at most 4,294,967,295
+abbrev pub lastNumber : ℕ
+lastNumber = 4294967295
 
 -- stamps compare by number, then rank
 unfoldable pub stampLess : Stamp → Stamp → Bool

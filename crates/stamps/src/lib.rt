@@ -8,6 +8,11 @@ pub struct Stamp {
     pub rank: u8,
 }
 
+impl Stamp {
+    // The greatest number: no stamp of a greater one follows.
+    pub const LAST: u32 = u32::MAX;
+}
+
 // What a replica keeps for one cell.
 pub struct Pair {
     pub value: i32,

@@ -8,10 +8,22 @@ ghost use lib.Dec.{eqb};
 ghost use Rattle.clusters.specs.laws.Arrays.{arrays, Fit, Ready, Taking, Tally, OwnNumbers, stopOf, markOf, Scattering, Scattered, Sweepable, Visited, Swept, LowestIn};
 ghost use Rattle.verdict.specs.Verdict.{takenFor, Judges};
 ghost use Rattle.verdict.specs.laws.Judging.{Settles, JudgesIn};
+use chains::CHAINS;
 use chains::Linked;
 use chains::Write;
 use record::Answer;
 use record::Cell;
+use record::ENTRY_LIMIT;
+
+// How many places clusters have, among them the one beyond those of all entries; and the stop of what has none.
+const PLACES: usize = 2 * ENTRY_LIMIT;
+
+const BEYOND: u16 = ENTRY_LIMIT as u16;
+
+const FAR: u16 = u16::MAX;
+
+// What stands for no cell.
+const NO_CELL: u8 = Cell::LIMIT as u8;
 
 // What the judge says of a record.
 pub enum Verdict {
@@ -59,7 +71,7 @@ fn mark_of(least: u16, reach: u16, mark: u8) -> u8
 }
 
 // Before any read a cluster's greatest start is its write's.
-fn own_numbers(n: usize, most: &mut [u16; 2048])
+fn own_numbers(n: usize, most: &mut [u16; ENTRY_LIMIT])
     requires { ⌜ (n ≤ 2048) × (length (now most) ≡ 2048) ⌝ }
     ensures { λ r. ⌜ OwnNumbers n (now (most .exit)) ⌝ }
 {
@@ -74,11 +86,16 @@ fn own_numbers(n: usize, most: &mut [u16; 2048])
 fn stop_of(kind: u8, p: u16) -> u16
     ensures { λ r. ⌜ r ≡ stopOf kind p ⌝ }
 {
-    if kind == 3 { p } else { 65535 }
+    if kind == 3 { p } else { FAR }
 }
 
 // A write's end is an end of its own cluster; no other entry lowers anything here.
-fn take_done(kinds: &[u8; 2048], starts: &[u16; 2048], least: &mut [u16; 2048], p: usize)
+fn take_done(
+    kinds: &[u8; ENTRY_LIMIT],
+    starts: &[u16; ENTRY_LIMIT],
+    least: &mut [u16; ENTRY_LIMIT],
+    p: usize,
+)
     requires { ⌜ (p < 2048) × (getD (now starts) p 0 < 2048) ⌝ }
     ensures { λ r. ⌜ now (least .exit) ≡ set (now (least .entry)) (getD (now (starts .entry)) p 0) (min (getD (now (least .entry)) (getD (now (starts .entry)) p 0) 0) (stopOf (getD (now (kinds .entry)) p 0) p)) ⌝ }
 {
@@ -88,7 +105,12 @@ fn take_done(kinds: &[u8; 2048], starts: &[u16; 2048], least: &mut [u16; 2048], 
 }
 
 // A read of zero: nothing may end before the last of them begins.
-fn take_zero(cells: &[u8; 2048], starts: &[u16; 2048], zero: &mut [u16; 16], p: usize)
+fn take_zero(
+    cells: &[u8; ENTRY_LIMIT],
+    starts: &[u16; ENTRY_LIMIT],
+    zero: &mut [u16; Cell::LIMIT],
+    p: usize,
+)
     requires { ⌜ (p < 2048) × (getD (now cells) p 0 < 16) ⌝ }
     ensures { λ r. ⌜ now (zero .exit) ≡ set (now (zero .entry)) (getD (now (cells .entry)) p 0) (max (getD (now (zero .entry)) (getD (now (cells .entry)) p 0) 0) (getD (now (starts .entry)) p 0)) ⌝ }
 {
@@ -98,7 +120,13 @@ fn take_zero(cells: &[u8; 2048], starts: &[u16; 2048], zero: &mut [u16; 16], p: 
 }
 
 // A read's end and start into the cluster of the write w.
-fn join(starts: &[u16; 2048], least: &mut [u16; 2048], most: &mut [u16; 2048], p: usize, w: usize)
+fn join(
+    starts: &[u16; ENTRY_LIMIT],
+    least: &mut [u16; ENTRY_LIMIT],
+    most: &mut [u16; ENTRY_LIMIT],
+    p: usize,
+    w: usize,
+)
     requires { ⌜ (p < 2048) × (w < 2048) ⌝ }
     ensures { λ r. ⌜ (now (least .exit) ≡ set (now (least .entry)) w (min (getD (now (least .entry)) w 0) p)) × (now (most .exit) ≡ set (now (most .entry)) w (max (getD (now (most .entry)) w 0) (getD (now (starts .entry)) p 0))) ⌝ }
 {
@@ -109,7 +137,7 @@ fn join(starts: &[u16; 2048], least: &mut [u16; 2048], most: &mut [u16; 2048], p
 }
 
 // The cell of entry p has a read that gives what no write before its end asked.
-fn mark(cells: &[u8; 2048], bad: &mut [u8; 16], p: usize)
+fn mark(cells: &[u8; ENTRY_LIMIT], bad: &mut [u8; Cell::LIMIT], p: usize)
     requires { ⌜ (p < 2048) × (getD (now cells) p 0 < 16) ⌝ }
     ensures { λ r. ⌜ now (bad .exit) ≡ set (now (bad .entry)) (getD (now (cells .entry)) p 0) 1 ⌝ }
 {
@@ -119,17 +147,17 @@ fn mark(cells: &[u8; 2048], bad: &mut [u8; 16], p: usize)
 
 // A read's end: a read of zero, or one of its write's cluster.
 fn take_read(
-    kinds: &[u8; 2048],
-    cells: &[u8; 2048],
-    values: &[u32; 2048],
-    starts: &[u16; 2048],
+    kinds: &[u8; ENTRY_LIMIT],
+    cells: &[u8; ENTRY_LIMIT],
+    values: &[u32; ENTRY_LIMIT],
+    starts: &[u16; ENTRY_LIMIT],
     n: usize,
-    head: &[u16; 4096],
-    next: &[u16; 2048],
-    least: &mut [u16; 2048],
-    most: &mut [u16; 2048],
-    zero: &mut [u16; 16],
-    bad: &mut [u8; 16],
+    head: &[u16; CHAINS],
+    next: &[u16; ENTRY_LIMIT],
+    least: &mut [u16; ENTRY_LIMIT],
+    most: &mut [u16; ENTRY_LIMIT],
+    zero: &mut [u16; Cell::LIMIT],
+    bad: &mut [u8; Cell::LIMIT],
     p: usize,
 )
     requires { ⌜ (getD (now kinds) p 0 ≡ 2) × Taking (arrays (now kinds) (now cells) (now values) (now starts)) n p (now head) (now next) (now least) (now most) (now zero) (now bad) ⌝ }
@@ -140,7 +168,8 @@ fn take_read(
         take_zero(cells, starts, zero, p);
         return;
     }
-    match chains::find(kinds, cells, values, n, head, next, cells[p], v) {
+    let x = cells[p];
+    match chains::find(kinds, cells, values, n, head, next, Cell(x), v) {
         Write::None => mark(cells, bad, p),
         Write::At(w) => {
             join(starts, least, most, p, w);
@@ -154,17 +183,17 @@ fn take_read(
 
 // Entry p: only ends are taken. An unfinished read is in no cluster, and an unfinished write has no end.
 fn take_entry(
-    kinds: &[u8; 2048],
-    cells: &[u8; 2048],
-    values: &[u32; 2048],
-    starts: &[u16; 2048],
+    kinds: &[u8; ENTRY_LIMIT],
+    cells: &[u8; ENTRY_LIMIT],
+    values: &[u32; ENTRY_LIMIT],
+    starts: &[u16; ENTRY_LIMIT],
     n: usize,
-    head: &[u16; 4096],
-    next: &[u16; 2048],
-    least: &mut [u16; 2048],
-    most: &mut [u16; 2048],
-    zero: &mut [u16; 16],
-    bad: &mut [u8; 16],
+    head: &[u16; CHAINS],
+    next: &[u16; ENTRY_LIMIT],
+    least: &mut [u16; ENTRY_LIMIT],
+    most: &mut [u16; ENTRY_LIMIT],
+    zero: &mut [u16; Cell::LIMIT],
+    bad: &mut [u8; Cell::LIMIT],
     p: usize,
 )
     requires { ⌜ Taking (arrays (now kinds) (now cells) (now values) (now starts)) n p (now head) (now next) (now least) (now most) (now zero) (now bad) ⌝ }
@@ -192,17 +221,17 @@ fn take_entry(
 
 // Every end into its cluster.
 fn take_ends(
-    kinds: &[u8; 2048],
-    cells: &[u8; 2048],
-    values: &[u32; 2048],
-    starts: &[u16; 2048],
+    kinds: &[u8; ENTRY_LIMIT],
+    cells: &[u8; ENTRY_LIMIT],
+    values: &[u32; ENTRY_LIMIT],
+    starts: &[u16; ENTRY_LIMIT],
     n: usize,
-    head: &[u16; 4096],
-    next: &[u16; 2048],
-    least: &mut [u16; 2048],
-    most: &mut [u16; 2048],
-    zero: &mut [u16; 16],
-    bad: &mut [u8; 16],
+    head: &[u16; CHAINS],
+    next: &[u16; ENTRY_LIMIT],
+    least: &mut [u16; ENTRY_LIMIT],
+    most: &mut [u16; ENTRY_LIMIT],
+    zero: &mut [u16; Cell::LIMIT],
+    bad: &mut [u8; Cell::LIMIT],
 )
     requires { ⌜ Ready (arrays (now kinds) (now cells) (now values) (now starts)) n (now head) (now next) × Tally (arrays (now kinds) (now cells) (now values) (now starts)) n 0 (now least) (now most) (now zero) (now bad) ⌝ }
     ensures { λ r. ⌜ Tally (arrays (now (kinds .entry)) (now (cells .entry)) (now (values .entry)) (now (starts .entry))) n n (now (least .exit)) (now (most .exit)) (now (zero .exit)) (now (bad .exit)) ⌝ }
@@ -231,19 +260,19 @@ fn take_ends(
 fn place_of(kind: u8, place: u16) -> u16
     ensures { λ r. ⌜ r ≡ cond (eqb kind 1) place 2048 ⌝ }
 {
-    if kind == 1 { place } else { 2048 }
+    if kind == 1 { place } else { BEYOND }
 }
 
 // A write's cluster to its place.
 fn place(
-    kinds: &[u8; 2048],
-    cells: &[u8; 2048],
-    values: &[u32; 2048],
-    starts: &[u16; 2048],
+    kinds: &[u8; ENTRY_LIMIT],
+    cells: &[u8; ENTRY_LIMIT],
+    values: &[u32; ENTRY_LIMIT],
+    starts: &[u16; ENTRY_LIMIT],
     n: usize,
-    least: &[u16; 2048],
-    most: &[u16; 2048],
-    at: &mut [u16; 4096],
+    least: &[u16; ENTRY_LIMIT],
+    most: &[u16; ENTRY_LIMIT],
+    at: &mut [u16; PLACES],
     p: usize,
 )
     requires { ⌜ (p < n) × Scattering (arrays (now kinds) (now cells) (now values) (now starts)) n (now least) (now most) × Scattered (arrays (now kinds) (now cells) (now values) (now starts)) n (now least) (now most) p (now at) ⌝ }
@@ -255,14 +284,14 @@ fn place(
 
 // Every cluster to its place: the first of its least stop and greatest start. No two share one.
 fn scatter(
-    kinds: &[u8; 2048],
-    cells: &[u8; 2048],
-    values: &[u32; 2048],
-    starts: &[u16; 2048],
+    kinds: &[u8; ENTRY_LIMIT],
+    cells: &[u8; ENTRY_LIMIT],
+    values: &[u32; ENTRY_LIMIT],
+    starts: &[u16; ENTRY_LIMIT],
     n: usize,
-    least: &[u16; 2048],
-    most: &[u16; 2048],
-    at: &mut [u16; 4096],
+    least: &[u16; ENTRY_LIMIT],
+    most: &[u16; ENTRY_LIMIT],
+    at: &mut [u16; PLACES],
 )
     requires { ⌜ Scattering (arrays (now kinds) (now cells) (now values) (now starts)) n (now least) (now most) × Scattered (arrays (now kinds) (now cells) (now values) (now starts)) n (now least) (now most) 0 (now at) ⌝ }
     ensures { λ r. ⌜ Scattered (arrays (now (kinds .entry)) (now (cells .entry)) (now (values .entry)) (now (starts .entry))) n (now (least .entry)) (now (most .entry)) n (now (at .exit)) ⌝ }
@@ -276,11 +305,11 @@ fn scatter(
 
 // The cluster of the write w, which stands at place p: it marks its cell if it ends before the cell's reach, and carries the reach on.
 fn meet(
-    cells: &[u8; 2048],
-    least: &[u16; 2048],
-    most: &[u16; 2048],
-    reach: &mut [u16; 16],
-    bad: &mut [u8; 16],
+    cells: &[u8; ENTRY_LIMIT],
+    least: &[u16; ENTRY_LIMIT],
+    most: &[u16; ENTRY_LIMIT],
+    reach: &mut [u16; Cell::LIMIT],
+    bad: &mut [u8; Cell::LIMIT],
     w: usize,
 )
     requires { ⌜ (w < 2048) × (getD (now cells) w 0 < 16) ⌝ }
@@ -295,16 +324,16 @@ fn meet(
 
 // One place of the sweep. The kinds, values and starts say which clusters are meant, and are not read.
 fn visit(
-    kinds: &[u8; 2048],
-    cells: &[u8; 2048],
-    values: &[u32; 2048],
-    starts: &[u16; 2048],
+    kinds: &[u8; ENTRY_LIMIT],
+    cells: &[u8; ENTRY_LIMIT],
+    values: &[u32; ENTRY_LIMIT],
+    starts: &[u16; ENTRY_LIMIT],
     n: usize,
-    least: &[u16; 2048],
-    most: &[u16; 2048],
-    at: &[u16; 4096],
-    reach: &mut [u16; 16],
-    bad: &mut [u8; 16],
+    least: &[u16; ENTRY_LIMIT],
+    most: &[u16; ENTRY_LIMIT],
+    at: &[u16; PLACES],
+    reach: &mut [u16; Cell::LIMIT],
+    bad: &mut [u8; Cell::LIMIT],
     p: usize,
 )
     requires { ⌜ (p < n) × Sweepable (arrays (now kinds) (now cells) (now values) (now starts)) n (now least) (now most) (now at) ⌝ }
@@ -319,16 +348,16 @@ fn visit(
 
 // All places in order. How far a cell reaches is at first the last start of a read of zero.
 fn sweep(
-    kinds: &[u8; 2048],
-    cells: &[u8; 2048],
-    values: &[u32; 2048],
-    starts: &[u16; 2048],
+    kinds: &[u8; ENTRY_LIMIT],
+    cells: &[u8; ENTRY_LIMIT],
+    values: &[u32; ENTRY_LIMIT],
+    starts: &[u16; ENTRY_LIMIT],
     n: usize,
-    least: &[u16; 2048],
-    most: &[u16; 2048],
-    at: &[u16; 4096],
-    reach: &mut [u16; 16],
-    bad: &mut [u8; 16],
+    least: &[u16; ENTRY_LIMIT],
+    most: &[u16; ENTRY_LIMIT],
+    at: &[u16; PLACES],
+    reach: &mut [u16; Cell::LIMIT],
+    bad: &mut [u8; Cell::LIMIT],
 )
     requires { ⌜ Sweepable (arrays (now kinds) (now cells) (now values) (now starts)) n (now least) (now most) (now at) × (length (now reach) ≡ 16) × (length (now bad) ≡ 16) ⌝ }
     ensures { λ r. ⌜ Swept (arrays (now (kinds .entry)) (now (cells .entry)) (now (values .entry)) (now (starts .entry))) n (now (least .entry)) (now (most .entry)) (now (reach .entry)) (now (bad .entry)) (now (bad .exit)) ⌝ }
@@ -352,36 +381,36 @@ fn sweep(
     }
 }
 
-// The lowest marked cell, 16 if none is.
-fn lowest(bad: &[u8; 16]) -> u8
+// The lowest marked cell, the limit of cells if none is.
+fn lowest(bad: &[u8; Cell::LIMIT]) -> u8
     ensures { λ r. ⌜ LowestIn (now (bad .entry)) r ⌝ }
 {
     let mut c: u8 = 0;
-    while c < 16 {
+    while c < NO_CELL {
         if bad[wide_cell(c)] != 0 {
             return c;
         }
         c += 1;
     }
-    16
+    NO_CELL
 }
 
 // The clusters in the order of their places, and what the sweep over them marks.
 fn order(
-    kinds: &[u8; 2048],
-    cells: &[u8; 2048],
-    values: &[u32; 2048],
-    starts: &[u16; 2048],
+    kinds: &[u8; ENTRY_LIMIT],
+    cells: &[u8; ENTRY_LIMIT],
+    values: &[u32; ENTRY_LIMIT],
+    starts: &[u16; ENTRY_LIMIT],
     n: usize,
-    least: &[u16; 2048],
-    most: &[u16; 2048],
-    reach: &mut [u16; 16],
-    bad: &mut [u8; 16],
+    least: &[u16; ENTRY_LIMIT],
+    most: &[u16; ENTRY_LIMIT],
+    reach: &mut [u16; Cell::LIMIT],
+    bad: &mut [u8; Cell::LIMIT],
 )
     requires { ⌜ Scattering (arrays (now kinds) (now cells) (now values) (now starts)) n (now least) (now most) × (length (now reach) ≡ 16) × (length (now bad) ≡ 16) ⌝ }
     ensures { λ r. ⌜ Swept (arrays (now (kinds .entry)) (now (cells .entry)) (now (values .entry)) (now (starts .entry))) n (now (least .entry)) (now (most .entry)) (now (reach .entry)) (now (bad .entry)) (now (bad .exit)) ⌝ }
 {
-    let mut at = [65535u16; 4096];
+    let mut at = [FAR; PLACES];
     scatter(kinds, cells, values, starts, n, least, most, &mut at);
     sweep(
         kinds,
@@ -397,23 +426,23 @@ fn order(
     );
 }
 
-// The lowest cell whose operations have no lawful order, 16 if there is none.
+// The lowest cell whose operations have no lawful order, the limit of cells if there is none.
 fn settle(
-    kinds: &[u8; 2048],
-    cells: &[u8; 2048],
-    values: &[u32; 2048],
-    starts: &[u16; 2048],
+    kinds: &[u8; ENTRY_LIMIT],
+    cells: &[u8; ENTRY_LIMIT],
+    values: &[u32; ENTRY_LIMIT],
+    starts: &[u16; ENTRY_LIMIT],
     n: usize,
-    head: &[u16; 4096],
-    next: &[u16; 2048],
+    head: &[u16; CHAINS],
+    next: &[u16; ENTRY_LIMIT],
 ) -> u8
     requires { ⌜ Ready (arrays (now kinds) (now cells) (now values) (now starts)) n (now head) (now next) ⌝ }
     ensures { λ r. ⌜ Settles (arrays (now (kinds .entry)) (now (cells .entry)) (now (values .entry)) (now (starts .entry))) n r ⌝ }
 {
-    let mut least = [65535u16; 2048];
-    let mut most = [0u16; 2048];
-    let mut zero = [0u16; 16];
-    let mut bad = [0u8; 16];
+    let mut least = [FAR; ENTRY_LIMIT];
+    let mut most = [0u16; ENTRY_LIMIT];
+    let mut zero = [0u16; Cell::LIMIT];
+    let mut bad = [0u8; Cell::LIMIT];
     own_numbers(n, &mut most);
     take_ends(
         kinds,
@@ -444,22 +473,22 @@ fn settle(
 
 // The verdict on paired entries: 29, or whether the cells are lawful.
 fn judge_paired(
-    kinds: &[u8; 2048],
-    cells: &[u8; 2048],
-    values: &[u32; 2048],
-    starts: &[u16; 2048],
+    kinds: &[u8; ENTRY_LIMIT],
+    cells: &[u8; ENTRY_LIMIT],
+    values: &[u32; ENTRY_LIMIT],
+    starts: &[u16; ENTRY_LIMIT],
     n: usize,
 ) -> Verdict
     requires { ⌜ Fit (arrays (now kinds) (now cells) (now values) (now starts)) n ⌝ }
     ensures { λ r. ⌜ JudgesIn (arrays (now (kinds .entry)) (now (cells .entry)) (now (values .entry)) (now (starts .entry))) n r ⌝ }
 {
-    let mut head = [0u16; 4096];
-    let mut next = [0u16; 2048];
+    let mut head = [0u16; CHAINS];
+    let mut next = [0u16; ENTRY_LIMIT];
     match chains::link(kinds, cells, values, n, &mut head, &mut next) {
         Linked::Again(p) => Verdict::Refused(29, p),
         Linked::All => {
             let c = settle(kinds, cells, values, starts, n, &head, &next);
-            if c < 16 {
+            if c < NO_CELL {
                 return Verdict::Unlawful(Cell(c));
             }
             Verdict::Lawful
@@ -472,10 +501,10 @@ fn judge_paired(
 pub fn judge(s: &[u8]) -> Verdict
     ensures { λ r. ⌜ Judges (takenFor (now (s .entry))) r ⌝ }
 {
-    let mut kinds = [0u8; 2048];
-    let mut cells = [0u8; 2048];
-    let mut values = [0u32; 2048];
-    let mut starts = [0u16; 2048];
+    let mut kinds = [0u8; ENTRY_LIMIT];
+    let mut cells = [0u8; ENTRY_LIMIT];
+    let mut values = [0u32; ENTRY_LIMIT];
+    let mut starts = [0u16; ENTRY_LIMIT];
     match pairs::pair_up(s, &mut kinds, &mut cells, &mut values, &mut starts) {
         Answer::Refused(k, n) => Verdict::Refused(k, n),
         Answer::All(n) => judge_paired(&kinds, &cells, &values, &starts, n),

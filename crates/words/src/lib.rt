@@ -1,13 +1,15 @@
-// A rack in lent memory: 11,301 words of 32 bits, laid out as crate layout says, and schedules run on it.
+// A rack in lent memory: words of 32 bits, laid out as crate layout says, and schedules run on it.
 ghost use mathlib.Core.Path.{_≡_};
 ghost use mathlib.Core.Bool.{true, cond};
 ghost use Prim.Native.Nat.{_+_, _*_, _≤_, _<_};
 ghost use lib.ListN.{length, getD, replicate};
 ghost use lib.Seq.{sets};
 ghost use lib.Dec.{ltb};
+ghost use Rattle.record.specs.Entry.{clientLimit};
+ghost use Rattle.record.specs.Record.{entryLimit};
 ghost use Rattle.rows.specs.Row.{entryOf, rowOf};
 ghost use Rattle.stamps.specs.Stamp.{freshPair};
-ghost use Rattle.rack.specs.Places.{idle, heldIn};
+ghost use Rattle.rack.specs.Places.{slotLimit, pairLimit, idle, heldIn};
 ghost use Rattle.rack.specs.Sound.{allBelow, soundOf};
 ghost use Rattle.layout.specs.Layout.{wordCount, partyPlace, pairPlace, slotPlace, entryPlace, word, firsts};
 ghost use Rattle.layout.specs.Reading.{byteOf, setOf, pairIn, goalOf, workOf, workIn, partyKnown, strayParty, partyIn, bodyOf, messageKnown, strayHeld, fullIn, heldOf, slotIn};
@@ -33,19 +35,62 @@ use record::Replica;
 use stamps::Pair;
 use stamps::Stamp;
 
-// How many words a rack takes.
-pub const WORDS: usize = 11301;
+// How many words the head, a client, a pair, a slot and an entry take.
+const HEAD_WORDS: usize = 5;
+
+const PARTY_WORDS: usize = 10;
+
+const PAIR_WORDS: usize = 3;
+
+const SLOT_WORDS: usize = 9;
+
+const ENTRY_WORDS: usize = 4;
+
+// How many words say what a client is at: all of its own but two.
+const WORK_WORDS: usize = PARTY_WORDS - 2;
+
+// Where the clients, the pairs, the slots and the entries begin, each where those before them end; and how many words a rack takes.
+const PARTIES_AT: usize = HEAD_WORDS;
+
+const PAIRS_AT: usize = PARTIES_AT + PARTY_WORDS * Client::LIMIT;
+
+const SLOTS_AT: usize = PAIRS_AT + PAIR_WORDS * Rack::PAIRS;
+
+const ENTRIES_AT: usize = SLOTS_AT + SLOT_WORDS * Rack::SLOTS;
+
+pub const WORDS: usize = ENTRIES_AT + ENTRY_WORDS * Rack::ENTRIES;
+
+// Limits of what a word holds: a byte, a set, an operation number, a cell's number, a count of entries, the replicas' power.
+const BYTE_LIMIT: u32 = u8::MAX as u32 + 1;
+
+const SET_LIMIT: u32 = u16::MAX as u32 + 1;
+
+const LAST_OP: u32 = Party::LAST_OP as u32;
+
+const OP_LIMIT: u32 = LAST_OP + 1;
+
+const CELL_LIMIT: u32 = Cell::LIMIT as u32;
+
+const MOST_ENTRIES: u32 = Rack::ENTRIES as u32;
+
+const POWER_LIMIT: u32 = 1 << Replica::LIMIT;
+
+// A count that no record has.
+const NO_COUNT: usize = Rack::ENTRIES + 1;
+
+// A number that no rack has.
+const STRAY: u8 = u8::MAX;
 
 // ---- reading
 
-// A number that a byte can't hold is 255, which no rack has.
+// A number that a byte can't hold is one that no rack has.
 fn byte(word: u32) -> u8
     ensures { λ r. ⌜ r ≡ byteOf word ⌝ }
 {
-    if word < 256 {
+    if word < BYTE_LIMIT {
         return word as u8;
     }
-    255
+    STRAY
 }
 
 fn byte_at(words: &[u32], at: usize) -> u8
@@ -58,10 +103,10 @@ fn byte_at(words: &[u32], at: usize) -> u8
 fn set_of(word: u32) -> u16
     ensures { λ r. ⌜ r ≡ setOf word ⌝ }
 {
-    if word < 65536 {
+    if word < SET_LIMIT {
         return word as u16;
     }
-    65535
+    u16::MAX
 }
 
 fn pair_at(words: &[u32], at: usize) -> Pair
@@ -129,7 +174,7 @@ fn party_known(stopped: u32, op: u32, phase: u32, goal: u32) -> bool
     if 1 < stopped {
         return false;
     }
-    if 65535 < op {
+    if LAST_OP < op {
         return false;
     }
     if 2 < phase {
@@ -151,7 +196,7 @@ fn stray_party() -> Party
         value: 0,
     };
     let work = Work::Keeping {
-        cell: Cell(255),
+        cell: Cell(STRAY),
         goal: Goal::Read,
         set: 0,
         held: held,
@@ -202,7 +247,7 @@ fn message_known(mark: u32, body: u32, op: u32) -> bool
     if 3 < body {
         return false;
     }
-    op < 65536
+    op < OP_LIMIT
 }
 
 // A message that no rack has: words that are none are read as it.
@@ -210,7 +255,7 @@ fn stray_held() -> InSlot
     ensures { λ r. ⌜ r ≡ strayHeld ⌝ }
 {
     InSlot::Full(Message {
-        client: Client(255),
+        client: Client(STRAY),
         replica: Replica(0),
         cell: Cell(0),
         op: 0,
@@ -249,20 +294,20 @@ fn held_at(words: &[u32], at: usize) -> InSlot
     stray_held()
 }
 
-fn entry_of(kind: u32, client: u8, cell: u8, value: u32) -> Entry
-    ensures { λ r. ⌜ r ≡ entryOf kind client cell value ⌝ }
+fn entry_of(kind: u32, client: Client, cell: Cell, value: u32) -> Entry
+    ensures { λ r. ⌜ r ≡ entryOf kind (client .0) (cell .0) value ⌝ }
 {
     if kind == 0 {
-        return Entry::ReadAsked(Client(client), Cell(cell));
+        return Entry::ReadAsked(client, cell);
     }
     let v = number::signed(value);
     if kind == 1 {
-        return Entry::WriteAsked(Client(client), Cell(cell), v);
+        return Entry::WriteAsked(client, cell, v);
     }
     if kind == 2 {
-        return Entry::Told(Client(client), v);
+        return Entry::Told(client, v);
     }
-    Entry::Done(Client(client))
+    Entry::Done(client)
 }
 
 fn line_at(words: &[u32], at: usize) -> Line
@@ -271,7 +316,7 @@ fn line_at(words: &[u32], at: usize) -> Line
 {
     let client = byte_at(words, at + 1);
     let cell = byte_at(words, at + 2);
-    let entry = entry_of(words[at], client, cell, words[at + 3]);
+    let entry = entry_of(words[at], Client(client), Cell(cell), words[at + 3]);
     Line { entry: entry }
 }
 
@@ -281,45 +326,45 @@ fn entry_known(kind: u32, client: u32, cell: u32) -> bool
     if 3 < kind {
         return false;
     }
-    if 7 < client {
+    if Client::LAST < client {
         return false;
     }
     if 1 < kind {
         return true;
     }
-    cell < 16
+    cell < CELL_LIMIT
 }
 
 // ---- reading each part
 
-fn parties_of(words: &[u32]) -> [Party; 8]
+fn parties_of(words: &[u32]) -> [Party; Client::LIMIT]
     requires { ⌜ length (now words) ≡ wordCount ⌝ }
-    ensures { λ r. ⌜ r ≡ firsts 8 (λ i. partyIn (now (words .entry)) (partyPlace i)) ⌝ }
+    ensures { λ r. ⌜ r ≡ firsts clientLimit (λ i. partyIn (now (words .entry)) (partyPlace i)) ⌝ }
 {
     let stray = stray_party();
-    let mut parties = [stray; 8];
+    let mut parties = [stray; Client::LIMIT];
     let mut i: usize = 0;
-    while i < 8 {
-        let party = party_at(words, 5 + 10 * i);
+    while i < Client::LIMIT {
+        let party = party_at(words, PARTIES_AT + PARTY_WORDS * i);
         parties[i] = party;
         i += 1;
     }
     parties
 }
 
-fn pairs_of(words: &[u32]) -> [Pair; 240]
+fn pairs_of(words: &[u32]) -> [Pair; Rack::PAIRS]
     requires { ⌜ length (now words) ≡ wordCount ⌝ }
-    ensures { λ r. ⌜ r ≡ firsts 240 (λ i. pairIn (now (words .entry)) (pairPlace i)) ⌝ }
+    ensures { λ r. ⌜ r ≡ firsts pairLimit (λ i. pairIn (now (words .entry)) (pairPlace i)) ⌝ }
 {
     let stamp = Stamp { number: 0, rank: 0 };
     let fresh = Pair {
         stamp: stamp,
         value: 0,
     };
-    let mut pairs = [fresh; 240];
+    let mut pairs = [fresh; Rack::PAIRS];
     let mut i: usize = 0;
-    while i < 240 {
-        let pair = pair_at(words, 85 + 3 * i);
+    while i < Rack::PAIRS {
+        let pair = pair_at(words, PAIRS_AT + PAIR_WORDS * i);
         pairs[i] = pair;
         i += 1;
     }
@@ -334,32 +379,32 @@ fn slot_at(words: &[u32], at: usize) -> Slot
     Slot { held: held }
 }
 
-fn wire_of(words: &[u32]) -> [Slot; 256]
+fn wire_of(words: &[u32]) -> [Slot; Rack::SLOTS]
     requires { ⌜ length (now words) ≡ wordCount ⌝ }
-    ensures { λ r. ⌜ r ≡ firsts 256 (λ i. slotIn (now (words .entry)) (slotPlace i)) ⌝ }
+    ensures { λ r. ⌜ r ≡ firsts slotLimit (λ i. slotIn (now (words .entry)) (slotPlace i)) ⌝ }
 {
     let nothing = InSlot::Empty;
     let empty = Slot { held: nothing };
-    let mut wire = [empty; 256];
+    let mut wire = [empty; Rack::SLOTS];
     let mut i: usize = 0;
-    while i < 256 {
-        let slot = slot_at(words, 805 + 9 * i);
+    while i < Rack::SLOTS {
+        let slot = slot_at(words, SLOTS_AT + SLOT_WORDS * i);
         wire[i] = slot;
         i += 1;
     }
     wire
 }
 
-fn lines_of(words: &[u32], n: usize) -> [Line; 2048]
-    requires { ⌜ (length (now words) ≡ wordCount) × (n ≤ 2048) ⌝ }
+fn lines_of(words: &[u32], n: usize) -> [Line; Rack::ENTRIES]
+    requires { ⌜ (length (now words) ≡ wordCount) × (n ≤ entryLimit) ⌝ }
     ensures { λ r. ⌜ r ≡ linesIn n (now (words .entry)) ⌝ }
 {
     let entry = Entry::Done(Client(0));
     let line = Line { entry: entry };
-    let mut lines = [line; 2048];
+    let mut lines = [line; Rack::ENTRIES];
     let mut i: usize = 0;
     while i < n {
-        let next = line_at(words, 3109 + 4 * i);
+        let next = line_at(words, ENTRIES_AT + ENTRY_WORDS * i);
         lines[i] = next;
         i += 1;
     }
@@ -367,12 +412,12 @@ fn lines_of(words: &[u32], n: usize) -> [Line; 2048]
 }
 
 fn lines_known(words: &[u32], n: usize) -> bool
-    requires { ⌜ (length (now words) ≡ wordCount) × (n ≤ 2048) ⌝ }
+    requires { ⌜ (length (now words) ≡ wordCount) × (n ≤ entryLimit) ⌝ }
     ensures { λ r. ⌜ r ≡ allBelow n (λ i. lineKnown (now (words .entry)) (entryPlace i)) ⌝ }
 {
     let mut i: usize = 0;
     while i < n {
-        let at = 3109 + 4 * i;
+        let at = ENTRIES_AT + ENTRY_WORDS * i;
         if !entry_known(words[at], words[at + 1], words[at + 2]) {
             return false;
         }
@@ -384,24 +429,24 @@ fn lines_known(words: &[u32], n: usize) -> bool
 // How many entries there are to look at.
 fn count_of(words: &[u32]) -> usize
     requires { ⌜ length (now words) ≡ wordCount ⌝ }
-    ensures { λ r. ⌜ (r ≡ entryCount (now (words .entry))) × (r ≤ 2048) ⌝ }
+    ensures { λ r. ⌜ (r ≡ entryCount (now (words .entry))) × (r ≤ entryLimit) ⌝ }
 {
-    if words[4] <= 2048 {
+    if words[4] <= MOST_ENTRIES {
         return words[4] as usize;
     }
-    2048
+    Rack::ENTRIES
 }
 
 // A count that is no count is one more than a record holds.
 fn count_in(words: &[u32], n: usize) -> usize
-    requires { ⌜ (length (now words) ≡ wordCount) × ((n ≡ entryCount (now words)) × (n ≤ 2048)) ⌝ }
+    requires { ⌜ (length (now words) ≡ wordCount) × ((n ≡ entryCount (now words)) × (n ≤ entryLimit)) ⌝ }
     ensures { λ r. ⌜ r ≡ countIn (now (words .entry)) ⌝ }
 {
-    if 2048 < words[4] {
-        return 2049;
+    if MOST_ENTRIES < words[4] {
+        return NO_COUNT;
     }
     if !lines_known(words, n) {
-        return 2049;
+        return NO_COUNT;
     }
     words[4] as usize
 }
@@ -409,7 +454,7 @@ fn count_in(words: &[u32], n: usize) -> usize
 fn power_of(word: u32) -> u16
     ensures { λ r. ⌜ r ≡ powerOf word ⌝ }
 {
-    if word < 32768 {
+    if word < POWER_LIMIT {
         return word as u16;
     }
     0
@@ -418,10 +463,10 @@ fn power_of(word: u32) -> u16
 fn replicas_of(replicas: u32, power: u32) -> u8
     ensures { λ r. ⌜ r ≡ cond (ltb power 32768) (byteOf replicas) 255 ⌝ }
 {
-    if power < 32768 {
+    if power < POWER_LIMIT {
         return byte(replicas);
     }
-    255
+    STRAY
 }
 
 fn sizes_of(words: &[u32]) -> Sizes
@@ -529,7 +574,7 @@ fn put_work(words: &mut [u32], at: usize, work: Work)
 {
     match work {
         Work::Idle => {
-            let eight = [0u32; 8];
+            let eight = [0u32; WORK_WORDS];
             put(words, at, &eight)
         }
         Work::Asking {
@@ -621,7 +666,7 @@ fn put_slot(words: &mut [u32], at: usize, held: InSlot)
 {
     match held {
         InSlot::Empty => {
-            let nine = [0u32; 9];
+            let nine = [0u32; SLOT_WORDS];
             put(words, at, &nine)
         }
         InSlot::Full(m) => put_message(words, at, m),
@@ -638,7 +683,7 @@ fn put_entry(words: &mut [u32], at: usize, entry: Entry)
 // ---- writing each part
 
 fn put_head(words: &mut [u32], rack: Rack)
-    requires { ⌜ (length (now words) ≡ wordCount) × (rack .count ≤ 2048) ⌝ }
+    requires { ⌜ (length (now words) ≡ wordCount) × (rack .count ≤ entryLimit) ⌝ }
     ensures { λ r. ⌜ now (words .exit) ≡ headOf rack (now (words .entry)) ⌝ }
 {
     let sizes = rack.sizes;
@@ -652,30 +697,30 @@ fn put_head(words: &mut [u32], rack: Rack)
     put(words, 0, &five)
 }
 
-fn put_parties(words: &mut [u32], parties: [Party; 8], n: usize)
-    requires { ⌜ (length (now words) ≡ wordCount) × (n ≤ 8) ⌝ }
+fn put_parties(words: &mut [u32], parties: [Party; Client::LIMIT], n: usize)
+    requires { ⌜ (length (now words) ≡ wordCount) × (n ≤ clientLimit) ⌝ }
     ensures { λ r. ⌜ now (words .exit) ≡ putFirsts n partyPlace (λ i. partyWords (getD parties i idle)) (now (words .entry)) ⌝ }
 {
     let mut i: usize = 0;
     while i < n {
         let party = parties[i];
-        put_party(words, 5 + 10 * i, party);
+        put_party(words, PARTIES_AT + PARTY_WORDS * i, party);
         i += 1;
     }
 }
 
 // A pair of a cell that the rack hasn't got is not written.
 fn put_pair_of(words: &mut [u32], cells: usize, i: usize, pair: Pair)
-    requires { ⌜ (length (now words) ≡ wordCount) × (i < 240) ⌝ }
+    requires { ⌜ (length (now words) ≡ wordCount) × (i < pairLimit) ⌝ }
     ensures { λ r. ⌜ now (words .exit) ≡ sets (now (words .entry)) (pairPlace i) (pairWritten cells i pair) ⌝ }
 {
-    if i % 16 < cells {
-        put_pair(words, 85 + 3 * i, pair)
+    if i % Cell::LIMIT < cells {
+        put_pair(words, PAIRS_AT + PAIR_WORDS * i, pair)
     }
 }
 
-fn put_pairs(words: &mut [u32], pairs: [Pair; 240], n: usize, cells: usize)
-    requires { ⌜ (length (now words) ≡ wordCount) × (n ≤ 240) ⌝ }
+fn put_pairs(words: &mut [u32], pairs: [Pair; Rack::PAIRS], n: usize, cells: usize)
+    requires { ⌜ (length (now words) ≡ wordCount) × (n ≤ pairLimit) ⌝ }
     ensures { λ r. ⌜ now (words .exit) ≡ putFirsts n pairPlace (λ i. pairWritten cells i (getD pairs i freshPair)) (now (words .entry)) ⌝ }
 {
     let mut i: usize = 0;
@@ -686,28 +731,28 @@ fn put_pairs(words: &mut [u32], pairs: [Pair; 240], n: usize, cells: usize)
     }
 }
 
-fn put_wire(words: &mut [u32], wire: [Slot; 256])
+fn put_wire(words: &mut [u32], wire: [Slot; Rack::SLOTS])
     requires { ⌜ length (now words) ≡ wordCount ⌝ }
-    ensures { λ r. ⌜ now (words .exit) ≡ putFirsts 256 slotPlace (λ i. slotWords (heldIn wire i)) (now (words .entry)) ⌝ }
+    ensures { λ r. ⌜ now (words .exit) ≡ putFirsts slotLimit slotPlace (λ i. slotWords (heldIn wire i)) (now (words .entry)) ⌝ }
 {
     let mut i: usize = 0;
-    while i < 256 {
+    while i < Rack::SLOTS {
         let slot = wire[i];
         let held = slot.held;
-        put_slot(words, 805 + 9 * i, held);
+        put_slot(words, SLOTS_AT + SLOT_WORDS * i, held);
         i += 1;
     }
 }
 
-fn put_lines(words: &mut [u32], lines: [Line; 2048], n: usize)
-    requires { ⌜ (length (now words) ≡ wordCount) × (n ≤ 2048) ⌝ }
+fn put_lines(words: &mut [u32], lines: [Line; Rack::ENTRIES], n: usize)
+    requires { ⌜ (length (now words) ≡ wordCount) × (n ≤ entryLimit) ⌝ }
     ensures { λ r. ⌜ now (words .exit) ≡ putFirsts n entryPlace (λ i. rowOf (entryIn lines i)) (now (words .entry)) ⌝ }
 {
     let mut i: usize = 0;
     while i < n {
         let line = lines[i];
         let entry = line.entry;
-        put_entry(words, 3109 + 4 * i, entry);
+        put_entry(words, ENTRIES_AT + ENTRY_WORDS * i, entry);
         i += 1;
     }
 }
@@ -724,7 +769,7 @@ fn put_members(words: &mut [u32], rack: Rack)
     put_pairs(
         words,
         pairs,
-        16 * (sizes.replicas as usize),
+        Cell::LIMIT * (sizes.replicas as usize),
         sizes.cells as usize,
     )
 }

@@ -26,7 +26,7 @@ fn row_found(kind: u32, client: u32, cell: u32, value: u32, next: usize) -> Foun
     if 3 < kind {
         return Found::Fault(24);
     }
-    if 7 < client {
+    if Client::LAST < client {
         return Found::Fault(25);
     }
     if kind == 3 {
@@ -38,7 +38,7 @@ fn row_found(kind: u32, client: u32, cell: u32, value: u32, next: usize) -> Foun
             next,
         );
     }
-    if 15 < cell {
+    if Cell::LAST < cell {
         return Found::Fault(25);
     }
     if kind == 0 {

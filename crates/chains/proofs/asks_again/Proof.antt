@@ -15,14 +15,14 @@ element-copy-out-if1 c = search needs
 returns : tie.Need-returns
 returns c = tells-yes (zero-again (record { write = c .before .before .pre .1; cell = refl; value = c .if1 .taken }))
 
-element-copy-out-find : tie.Need-element-copy-out-find
-element-copy-out-find c = search needs
+element-copy-out-x : tie.Need-element-copy-out-x
+element-copy-out-x c = search needs
 
 mul-find : tie.Need-mul-find
 mul-find c = search needs
 
-element-copy-out-find-2 : tie.Need-element-copy-out-find-2
-element-copy-out-find-2 c = search needs
+element-copy-out-find : tie.Need-element-copy-out-find
+element-copy-out-find c = search needs
 
 find-requires : tie.Need-find-requires
 find-requires c κs = search needs
@@ -46,9 +46,9 @@ asks-again-spec =
     mul-if1
     element-copy-out-if1
     returns
-    element-copy-out-find
+    element-copy-out-x
     mul-find
-    element-copy-out-find-2
+    element-copy-out-find
     find-requires
     enum-told
     enum-told-2

@@ -18,14 +18,14 @@ asks-again-requires c κs = search needs
 returns-2 : tie.Need-returns-2
 returns-2 c = not-entered (c .before .asks-again .ensures .yes (c .if2 .taken))
 
-element-copy-out-home : tie.Need-element-copy-out-home
-element-copy-out-home c = search needs
+element-copy-out-x : tie.Need-element-copy-out-x
+element-copy-out-x c = search needs
 
 mul-home : tie.Need-mul-home
 mul-home c = search needs
 
-element-copy-out-home-2 : tie.Need-element-copy-out-home-2
-element-copy-out-home-2 c = search needs
+element-copy-out-home : tie.Need-element-copy-out-home
+element-copy-out-home c = search needs
 
 home-requires : tie.Need-home-requires
 home-requires c κs = search needs
@@ -72,9 +72,9 @@ enter-spec =
     returns
     asks-again-requires
     returns-2
-    element-copy-out-home
+    element-copy-out-x
     mul-home
-    element-copy-out-home-2
+    element-copy-out-home
     home-requires
     mul-old
     element-copy-out-old

@@ -6,7 +6,7 @@ use Rattle.chains.proofs.find.Statement.{statement}
 use Rattle.chains.proofs.find.Tie as tie
 
 abbrev Inv-loop : tie.InvT-loop
-Inv-loop kinds cells values n head next cell value h link₀ link = Walk kinds cells values n head next cell value link
+Inv-loop kinds cells values n head next cell value h link₀ link = Walk kinds cells values n head next (cell .0) value link
 
 abbrev μ-loop : tie.MeasureT-loop
 μ-loop kinds cells values n head next cell value h link₀ link = link

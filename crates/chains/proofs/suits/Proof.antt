@@ -14,7 +14,7 @@ element-copy-out-if2 : tie.Need-element-copy-out-if2
 element-copy-out-if2 c = search needs
 
 returns : tie.Need-returns
-returns c = tells-yes (c .if2 .taken, c .before .before .if1 .taken)
+returns c = tells-yes (c .if2 .taken, c .before .before .before .if1 .taken)
 
 returns-2 : tie.Need-returns-2
 returns-2 c = tells-no (λ k. c .if2 .left (k .0))

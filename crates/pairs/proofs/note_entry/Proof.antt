@@ -16,7 +16,7 @@ mul-opened : tie.Need-mul-opened
 mul-opened c = search needs
 
 element-write-opened : tie.Need-element-write-opened
-element-write-opened c = rw (c .before .row-of .ensures) (omega (arith, row-client (c .before .before .before .before .args .cells .now) (c .before .before .before .before .args .opened .now) (c .before .before .before .before .args .n) (c .before .before .before .before .args .e) (c .before .before .before .before .pre .1)))
+element-write-opened c = rw (c .before .before .before .row-of .ensures) (omega (arith, row-client (c .before .before .before .before .before .before .args .cells .now) (c .before .before .before .before .before .before .args .opened .now) (c .before .before .before .before .before .before .args .n) (c .before .before .before .before .before .before .args .e) (c .before .before .before .before .before .before .pre .1)))
 
 element-write-kinds : tie.Need-element-write-kinds
 element-write-kinds c = search needs
@@ -37,7 +37,7 @@ element-write-starts : tie.Need-element-write-starts
 element-write-starts c = search needs
 
 returns : tie.Need-returns
-returns c = rw (sym (c .before .row-of .ensures)) (record { kinds-set = refl; cells-set = refl; values-set = refl; starts-set = refl; opened-set = refl })
+returns c = rw (sym (c .before .before .before .row-of .ensures)) (record { kinds-set = refl; cells-set = refl; values-set = refl; starts-set = refl; opened-set = refl })
 
 pub note-entry-spec : {M : Type 1} → statement M
 note-entry-spec =

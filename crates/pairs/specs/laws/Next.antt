@@ -176,7 +176,7 @@ module _ (kinds cells values starts opened : List ℕ) (n : ℕ) (ops : List Op)
       ap (λ (j : ℕ). getD cells j 0) s ∙ old .started o m .1 .cell
 
   pub paired-next : Paired ops n kinds cells values starts → (e : Entry) → InRange e → faultAfter st e ≡ 0
-      → Paired (note n e ops) (n + 1) (set kinds n (noteRow cells opened n e .kind)) (set cells n (noteRow cells opened n e .cell)) (set values n (noteRow cells opened n e .value))
+      → Paired (note n e ops) (n + 1) (set kinds n (noteRow cells opened n e .kind)) (set cells n (noteRow cells opened n e .cell .0)) (set values n (noteRow cells opened n e .value))
       (set starts n (noteRow cells opened n e .start))
   unfolding note faultAfter
   paired-next old (ReadAsked client cell) r f =
@@ -194,7 +194,7 @@ module _ (kinds cells values starts opened : List ℕ) (n : ℕ) (ops : List Op)
       let read : w .0 .write ≡ false = kind-read (w .0 .write) (sym (tied .kind (w .0) (w .1 .0) z) ∙ (ap (λ (j : ℕ). has st j) q ∙ h)) in
       paired-ends kinds cells values starts n ops long few old (client .0) (λ u. v) (w .0) (w .1 .0) q z
       (λ y m c o. tied .one y (w .0) m (w .1 .0) (c ∙ sym q) o z)
-      (row .kind) (row .cell) (row .value) (row .start)
+      (row .kind) (row .cell .0) (row .value) (row .start)
       (rw read) (cell-found old (w .0) (w .1 .0) (client .0) q z) (ap (λ (j : ℕ). getD opened j 0) (sym q) ∙ by (w .0) (w .1 .0) z)
       (λ t. true-false t read) (λ t. refl)
   paired-next old (Done client) r f =
@@ -206,7 +206,7 @@ module _ (kinds cells values starts opened : List ℕ) (n : ℕ) (ops : List Op)
       let write : w .0 .write ≡ true = kind-write (w .0 .write) (sym (tied .kind (w .0) (w .1 .0) z) ∙ (ap (λ (j : ℕ). has st j) q ∙ h)) in
       paired-ends kinds cells values starts n ops long few old (client .0) (λ u. u) (w .0) (w .1 .0) q z
       (λ y m c o. tied .one y (w .0) m (w .1 .0) (c ∙ sym q) o z)
-      (row .kind) (row .cell) (row .value) (row .start)
+      (row .kind) (row .cell .0) (row .value) (row .start)
       (rw write) (cell-found old (w .0) (w .1 .0) (client .0) q z) (ap (λ (j : ℕ). getD opened j 0) (sym q) ∙ by (w .0) (w .1 .0) z)
       (λ t. refl) (λ t. true-false write t)
 
@@ -219,7 +219,7 @@ module _ (kinds cells values starts opened : List ℕ) (n : ℕ) (ops : List Op)
   open-ends : (k : ℕ) (v : ℤ → ℤ) (start : ℕ) → OpenAt (map (ending n k v) ops) (set opened k start)
   open-ends k v start x m o = let b = still-open n k v ops x m o in getD-set-other opened k (x .client) start 0 (b .1) ∙ by x (b .0) o
 
-  pub open-next : length opened ≡ 8 → (e : Entry) → InRange e → faultAfter st e ≡ 0 → OpenAt (note n e ops) (set opened (noteRow cells opened n e .client) (noteRow cells opened n e .start))
+  pub open-next : length opened ≡ 8 → (e : Entry) → InRange e → faultAfter st e ≡ 0 → OpenAt (note n e ops) (set opened (noteRow cells opened n e .client .0) (noteRow cells opened n e .start))
   unfolding note
   open-next eight (ReadAsked client cell) r f = let a = may-step st (ReadAsked client cell) r f in open-asks eight (client .0) (cell .0) false (pos 0) (a .0) (a .2)
   open-next eight (WriteAsked client cell v) r f = let a = may-step st (WriteAsked client cell v) r f in open-asks eight (client .0) (cell .0) true v (a .0) (a .2)

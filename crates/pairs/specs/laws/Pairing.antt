@@ -71,7 +71,7 @@ low-set opened k n l few low j = go (ℕ-discrete j k)
     go (no d) = rw (getD-set-other opened k j n 0 d) (low j)
 
 -- a row's client is one of eight, and its start is an entry's number
-pub row-client : (cells opened : List ℕ) (n : ℕ) (e : Entry) → InRange e → noteRow cells opened n e .client ≤ 7
+pub row-client : (cells opened : List ℕ) (n : ℕ) (e : Entry) → InRange e → noteRow cells opened n e .client .0 ≤ 7
 row-client cells opened n (ReadAsked client cell) r = r .0
 row-client cells opened n (WriteAsked client cell v) r = r .0
 row-client cells opened n (Told client v) r = r .0
@@ -89,12 +89,12 @@ module _ {kinds cells values starts opened : List ℕ} {n : ℕ} {row : Row} {ki
   noted-long l =
       record {
         kinds-long = ap length (q .kinds-set) ∙ length-set kinds n (row .kind) ∙ l .kinds-long;
-        cells-long = ap length (q .cells-set) ∙ length-set cells n (row .cell) ∙ l .cells-long;
+        cells-long = ap length (q .cells-set) ∙ length-set cells n (row .cell .0) ∙ l .cells-long;
         values-long = ap length (q .values-set) ∙ length-set values n (row .value) ∙ l .values-long;
         starts-long = ap length (q .starts-set) ∙ length-set starts n (row .start) ∙ l .starts-long;
       }
 
-  noted-paired : {ops : List Op} {m : ℕ} → Paired ops m (set kinds n (row .kind)) (set cells n (row .cell)) (set values n (row .value)) (set starts n (row .start))
+  noted-paired : {ops : List Op} {m : ℕ} → Paired ops m (set kinds n (row .kind)) (set cells n (row .cell .0)) (set values n (row .value)) (set starts n (row .start))
       → Paired ops m kinds′ cells′ values′ starts′
   noted-paired w = rw (q .kinds-set, q .cells-set, q .values-set, q .starts-set) w
 
@@ -176,8 +176,8 @@ module _ {s kinds cells values starts opened : List ℕ} {st : Standing} {at n :
             ∙ ap (prepend (w .read)) (onward _ _ (c .left) at n st e next h g z) ∙ sym (prepend-next (w .read) e _);
         long = noted-long q (w .long);
         paired = rw ops (noted-paired q (paired-next kinds cells values starts opened n (operations (w .read)) (w .long) few st ties (w .openAt) (w .paired) e r z));
-        eight = ap length (q .opened-set) ∙ length-set opened (noteRow cells opened n e .client) (noteRow cells opened n e .start) ∙ w .eight;
-        low = rw (q .opened-set) (low-set opened (noteRow cells opened n e .client) (noteRow cells opened n e .start)
+        eight = ap length (q .opened-set) ∙ length-set opened (noteRow cells opened n e .client .0) (noteRow cells opened n e .start) ∙ w .eight;
+        low = rw (q .opened-set) (low-set opened (noteRow cells opened n e .client .0) (noteRow cells opened n e .start)
             (omega (arith, row-client cells opened n e r, w .eight)) (row-start cells opened n e few (w .low)) (w .low));
         openAt = rw (ops, q .opened-set) (open-next kinds cells values starts opened n (operations (w .read)) (w .long) few st ties (w .openAt) (w .eight) e r z);
       })

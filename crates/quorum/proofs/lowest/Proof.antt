@@ -6,12 +6,12 @@ use Rattle.quorum.specs.Sets.{setBits, lowestOf}
 use Rattle.quorum.proofs.lowest.Statement.{statement}
 use Rattle.quorum.proofs.lowest.Tie as tie
 
-cast-result : tie.Need-cast-result
-cast-result c = record { fits = omega (arith, trailing-le 16 (c .args .set)) }
+cast-k : tie.Need-cast-k
+cast-k c = record { fits = omega (arith, trailing-le 16 (c .args .set)) }
 
 returns : tie.Need-returns
 unfolding lowestOf setBits
 returns c = refl
 
 pub lowest-spec : {M : Type 1} → statement M
-lowest-spec = tie.close (tie.spec cast-result returns)
+lowest-spec = tie.close (tie.spec cast-k returns)

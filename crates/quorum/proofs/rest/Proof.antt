@@ -14,13 +14,13 @@ cast-result : tie.Need-cast-result
 cast-result c = search needs
 
 shl-result : tie.Need-shl-result
-shl-result c = lowest-sixteen (c .before .before .args .set) _ (search needs) (c .before .if1 .left) (c .lowest .ensures)
+shl-result c = lowest-sixteen (c .before .before .before .args .set) _ (search needs) (c .before .before .if1 .left) (λ i. c .before .lowest .ensures i .0)
 
 sub-result : tie.Need-sub-result
-sub-result c = rest-room (c .before .before .args .set) _ (search needs) (c .before .if1 .left) (c .lowest .ensures)
+sub-result c = rest-room (c .before .before .before .args .set) _ (search needs) (c .before .before .if1 .left) (λ i. c .before .lowest .ensures i .0)
 
 returns-2 : tie.Need-returns-2
-returns-2 c = rest-is (c .before .before .args .set) _ (search needs) (c .before .if1 .left) (c .lowest .ensures)
+returns-2 c = rest-is (c .before .before .before .args .set) _ (search needs) (c .before .before .if1 .left) (λ i. c .before .lowest .ensures i .0)
 
 pub rest-spec : {M : Type 1} → statement M
 rest-spec = tie.close (tie.spec returns lowest-requires cast-result shl-result sub-result returns-2)

@@ -5,6 +5,7 @@ use mathlib.Core.Path.{_≡_, _∙_, sym}
 use native.Mathlib.Omega.{arith}
 use lib.Count.{ones, trailingZeros}
 use lib.Dec.{eqb, ltb}
+use Rattle.record.specs.declared.Replica.{Replica}
 use Rattle.quorum.specs.Sets.{setBits, hasReplica, withReplica, withoutReplica, countOf, majority, asksEnough, keepsEnough, everyReplica, others, within, lowestOf, restOf}
 use Rattle.quorum.specs.laws.SetLaws.{same-members, has-with, has-every, has-others}
 use Rattle.quorum.specs.laws.Sheet.{half-of-4, most-of-4, other-three, one-more, not-of-4}
@@ -130,17 +131,17 @@ not-all-five r p q = omega (arith, other-three)
 
 -- ---- lowest
 
-pub one-lowest : (s r r′ : ℕ) → r ≡ lowestOf s → r′ ≡ lowestOf s → r ≡ r′
+pub one-lowest : (s : ℕ) (r r′ : Replica) → r ≡ record { 0 = lowestOf s } → r′ ≡ record { 0 = lowestOf s } → r ≡ r′
 one-lowest s r r′ p q = p ∙ sym q
 
 -- of replicas 1 and 3 it is 1: neither the highest, nor replica 0, which isn't there
-pub not-highest : (r : ℕ) → r ≡ lowestOf 0b01010 → r ≡ 3 → ⊥
+pub not-highest : (r : Replica) → r ≡ record { 0 = lowestOf 0b01010 } → r .0 ≡ 3 → ⊥
 unfolding lowestOf setBits trailingZeros
-not-highest r p q = let e : r ≡ 1 = p in omega arith
+not-highest r p q = let e : r .0 ≡ 1 = λ i. p i .0 in omega arith
 
-pub not-first : (r : ℕ) → r ≡ lowestOf 0b01010 → r ≡ 0 → ⊥
+pub not-first : (r : Replica) → r ≡ record { 0 = lowestOf 0b01010 } → r .0 ≡ 0 → ⊥
 unfolding lowestOf setBits trailingZeros
-not-first r p q = let e : r ≡ 1 = p in omega arith
+not-first r p q = let e : r .0 ≡ 1 = λ i. p i .0 in omega arith
 
 -- ---- rest
 

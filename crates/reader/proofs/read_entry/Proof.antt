@@ -30,8 +30,8 @@ enum-known-k-2 c = search needs
 enum-known-client : tie.Need-enum-known-client
 enum-known-client c = search needs
 
-cast-read-fields : tie.Need-cast-read-fields
-cast-read-fields c = omega (arith, passed 7 25 _ _ _ (sym (c .before .before .before .read-up-to2 .ensures) ∙ c .before .client .given .1) .1)
+cast-t13 : tie.Need-cast-t13
+cast-t13 c = omega (arith, passed 7 25 _ _ _ (sym (c .before .before .before .read-up-to2 .ensures) ∙ c .before .client .given .1) .1)
 
 read-fields-requires : tie.Need-read-fields-requires
 read-fields-requires c κs = search needs
@@ -58,7 +58,7 @@ read-entry-spec =
     read-up-to-requires-2
     enum-known-k-2
     enum-known-client
-    cast-read-fields
+    cast-t13
     read-fields-requires
     returns
     returns-2

@@ -48,8 +48,8 @@ enum-known-k-2 c = search needs
 enum-known-cell : tie.Need-enum-known-cell
 enum-known-cell c = search needs
 
-cast-t26 : tie.Need-cast-t26
-cast-t26 c = omega (arith, passed 15 25 _ _ _ (sym (c .before .before .before .before .read-up-to .ensures) ∙ c .before .before .cell .given .1) .1)
+cast-t23 : tie.Need-cast-t23
+cast-t23 c = omega (arith, passed 15 25 _ _ _ (sym (c .before .before .before .before .read-up-to .ensures) ∙ c .before .before .cell .given .1) .1)
 
 returns-4 : tie.Need-returns-4
 unfolding fieldsAt andThen
@@ -64,8 +64,8 @@ enum-known-k-3 c = search needs
 enum-known-v-2 : tie.Need-enum-known-v-2
 enum-known-v-2 c = search needs
 
-cast-t32 : tie.Need-cast-t32
-cast-t32 c = omega (arith, passed 15 25 _ _ _ (sym (c .before .before .before .before .before .before .before .before .read-up-to .ensures) ∙ c .before .before .before .before .before .before .cell .given .1) .1)
+cast-t28 : tie.Need-cast-t28
+cast-t28 c = omega (arith, passed 15 25 _ _ _ (sym (c .before .before .before .before .before .before .before .before .read-up-to .ensures) ∙ c .before .before .before .before .before .before .cell .given .1) .1)
 
 signed-requires-2 : tie.Need-signed-requires-2
 signed-requires-2 c κs = search needs
@@ -96,12 +96,12 @@ read-fields-spec =
     read-up-to-requires
     enum-known-k-2
     enum-known-cell
-    cast-t26
+    cast-t23
     returns-4
     read-number-requires-2
     enum-known-k-3
     enum-known-v-2
-    cast-t32
+    cast-t28
     signed-requires-2
     returns-5
     returns-6

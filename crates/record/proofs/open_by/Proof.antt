@@ -8,8 +8,11 @@ use Rattle.record.proofs.open_by.Tie as tie
 use Rattle.record.proofs.open_by.Reads as reads
 use Rattle.record.proofs.open_by.Lts as lts
 
+cast-at : tie.Need-cast-at
+cast-at c = search needs
+
 returns : tie.Need-returns
-returns c = sym (List·getD-eq-default (c .before .args .t1) 0 {n = c .before .args .client} (omega arith))
+returns c = sym (List·getD-eq-default (c .before .before .args .t1) 0 {n = c .before .before .args .client .0} (omega arith))
 
 array-read-result : tie.Need-array-read-result
 array-read-result c = search needs
@@ -18,4 +21,4 @@ returns-2 : tie.Need-returns-2
 returns-2 c = search needs
 
 pub open-by-spec : {M : Type 1} → statement M
-open-by-spec = tie.close (tie.spec returns array-read-result returns-2)
+open-by-spec = tie.close (tie.spec cast-at returns array-read-result returns-2)

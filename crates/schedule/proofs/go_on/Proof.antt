@@ -153,7 +153,7 @@ loop2-less c = omega (arith, c .before .before .rest .ensures, rest-less _ (c .b
 loop2-again : tie.Need-loop2-again Inv-loop2 μ-loop2 Inv-loop μ-loop
 loop2-again c =
     shipping-more _ _ _ _ _ _ (c .before .before .before .before .before .before .loop2 .inv) _ _ _
-    (sending-more _ _ _ _ _ _ _ ((c .before .before .before .before .before .before .loop2 .inv) .send) (c .before .before .before .before .before .loop2-test .taken) _ _ _ _ _ (c .take .ensures .1 _ ((c .before .before .before .before .before .before .loop2 .inv) .send .tied)) (c .before .before .before .before .lowest .ensures) (c .before .before .rest .ensures) (c .before .before .before .message-to .ensures))
+    (sending-more _ _ _ _ _ _ _ ((c .before .before .before .before .before .before .loop2 .inv) .send) (c .before .before .before .before .before .loop2-test .taken) _ _ _ _ _ (c .take .ensures .1 _ ((c .before .before .before .before .before .before .loop2 .inv) .send .tied)) (λ i. c .before .before .before .before .lowest .ensures i .0) (c .before .before .rest .ensures) (c .before .before .before .message-to .ensures))
 
 add-i : tie.Need-add-i Inv-loop2 μ-loop2 Inv-loop μ-loop
 add-i c = record { fits = omega (arith, (c .before .before .before .before .before .before .before .before .before .before .before .before .before .before .before .before .before .before .before .before .before .before .before .before .before .before .loop-test .taken), c .before .before .before .before .before .before .before .before .before .before .before .before .before .before .before .before .before .before .before .before .before .before .before .before .before .before .before .loop .inv .1 .1) }

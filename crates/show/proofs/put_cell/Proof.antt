@@ -4,8 +4,14 @@ use Rattle.text.specs.laws.Printing.{join}
 use Rattle.show.proofs.put_cell.Statement.{statement}
 use Rattle.show.proofs.put_cell.Tie as tie
 
+cast-pair-at : tie.Need-cast-pair-at
+cast-pair-at c = search needs
+
 mul-pair-at : tie.Need-mul-pair-at
 mul-pair-at c = search needs
+
+cast-pair-at-2 : tie.Need-cast-pair-at-2
+cast-pair-at-2 c = search needs
 
 add-pair-at : tie.Need-add-pair-at
 add-pair-at c = search needs
@@ -32,7 +38,9 @@ pub put-cell-spec : {M : Type 1} → statement M
 put-cell-spec =
     tie.close
     (tie.spec
+    cast-pair-at
     mul-pair-at
+    cast-pair-at-2
     add-pair-at
     pair-at-requires
     slice-aggregate-put-words

@@ -10,6 +10,9 @@ put-goal-requires c κs = search needs
 slice-aggregate-put-field : tie.Need-slice-aggregate-put-field
 slice-aggregate-put-field c = search needs
 
+cast-put-field : tie.Need-cast-put-field
+cast-put-field c = search needs
+
 put-field-requires : tie.Need-put-field-requires
 put-field-requires c κs = search needs
 
@@ -32,7 +35,7 @@ same-length : tie.Need-same-length
 same-length c = search needs
 
 returns : tie.Need-returns
-returns c = join (c .before .before .before .before .before .before .before .before .before .before .before .before .before .before .before .before .before .before .before .before .before .put-goal .ensures) (join (c .before .before .before .before .before .before .before .before .before .before .before .before .before .before .before .before .put-field .ensures) (join (c .before .before .before .before .before .before .before .before .before .before .before .put-field2 .ensures) (join (c .before .before .before .before .before .before .put-words .ensures) (c .before .before .put-members .ensures))))
+returns c = join (c .before .before .before .before .before .before .before .before .before .before .before .before .before .before .before .before .before .before .before .before .before .before .put-goal .ensures) (join (c .before .before .before .before .before .before .before .before .before .before .before .before .before .before .before .before .put-field .ensures) (join (c .before .before .before .before .before .before .before .before .before .before .before .put-field2 .ensures) (join (c .before .before .before .before .before .before .put-words .ensures) (c .before .before .put-members .ensures))))
 
 pub put-open-spec : {M : Type 1} → statement M
 put-open-spec =
@@ -40,6 +43,7 @@ put-open-spec =
     (tie.spec
     put-goal-requires
     slice-aggregate-put-field
+    cast-put-field
     put-field-requires
     slice-aggregate-put-field-2
     put-field-requires-2

@@ -14,7 +14,7 @@ use Rattle.show.proofs.put_pairs.Statement.{statement}
 use Rattle.show.proofs.put_pairs.Tie as tie
 
 abbrev Inv-loop : tie.InvT-loop
-Inv-loop out₀ at pairs k cells next₀ x₀ out next x = (x ≤ cells) × Printed out₀ at (eachBelow x (λ y. space ++ pairText (getD pairs (pairPlace k y) freshPair))) next out
+Inv-loop out₀ at pairs k cells next₀ x₀ out next x = (x ≤ cells) × Printed out₀ at (eachBelow x (λ y. space ++ pairText (getD pairs (pairPlace (k .0) y) freshPair))) next out
 
 abbrev μ-loop : tie.MeasureT-loop
 μ-loop out₀ at pairs k cells next₀ x₀ out next x = cells - x

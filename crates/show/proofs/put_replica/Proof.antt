@@ -7,6 +7,9 @@ use Rattle.show.proofs.put_replica.Tie as tie
 slice-aggregate-put-field : tie.Need-slice-aggregate-put-field
 slice-aggregate-put-field c = search needs
 
+cast-put-field : tie.Need-cast-put-field
+cast-put-field c = search needs
+
 put-field-requires : tie.Need-put-field-requires
 put-field-requires c κs = search needs
 
@@ -33,6 +36,7 @@ put-replica-spec =
     tie.close
     (tie.spec
     slice-aggregate-put-field
+    cast-put-field
     put-field-requires
     put-power-requires
     put-pairs-requires

@@ -18,8 +18,8 @@ take-zero-requires c κs = (small _ _ _ _ _ _ _ _ _ (c .before .before .before .
 returns : tie.Need-returns
 returns c = tally-zero _ _ _ _ _ _ _ _ _ (c .before .before .before .before .pre .1) (c .before .before .before .before .pre .0) _ (c .before .before .if1 .taken) (c .take-zero .ensures)
 
-element-copy-out-find : tie.Need-element-copy-out-find
-element-copy-out-find c = search needs
+element-copy-out-x : tie.Need-element-copy-out-x
+element-copy-out-x c = search needs
 
 find-requires : tie.Need-find-requires
 find-requires c κs = c .before .before .before .pre .1 .ready .table
@@ -56,7 +56,7 @@ take-read-spec =
     element-copy-out-v
     take-zero-requires
     returns
-    element-copy-out-find
+    element-copy-out-x
     find-requires
     enum-told
     mark-requires

@@ -14,8 +14,8 @@ Inv-loop clients parties n owed₀ i₀ owed i = (i ≤ n) × ((n ≤ 8) × ((ow
 abbrev μ-loop : tie.MeasureT-loop
 μ-loop clients parties n owed₀ i₀ owed i = n - i
 
-at-most-eight-requires : tie.Need-at-most-eight-requires Inv-loop μ-loop
-at-most-eight-requires c κs = search needs
+capped-requires : tie.Need-capped-requires Inv-loop μ-loop
+capped-requires c κs = search needs
 
 loop-holds : tie.Need-loop-holds Inv-loop μ-loop
 unfolding owedIn
@@ -43,7 +43,7 @@ loop-again : tie.Need-loop-again Inv-loop μ-loop
 loop-again c = (search needs, (search needs, (rw (c .owed-by .ensures .0, c .before .before .before .loop .inv .1 .1 .0) (sym (owed-next _ _)), omega arith)))
 
 returns : tie.Need-returns Inv-loop μ-loop
-returns c = c .before .loop .inv .1 .1 .0 ∙ owed-end (c .before .before .at-most-eight .result) (c .before .loop .i) _ _ (c .before .before .at-most-eight .ensures) (search needs) (c .loop-test .left) (c .before .loop .inv .0)
+returns c = c .before .loop .inv .1 .1 .0 ∙ owed-end (c .before .before .capped .result) (c .before .loop .i) _ _ (c .before .before .capped .ensures) (search needs) (c .loop-test .left) (c .before .loop .inv .0)
 
 pub owed-by-all-spec : {M : Type 1} → statement M
 owed-by-all-spec =
@@ -51,7 +51,7 @@ owed-by-all-spec =
     (tie.spec
     Inv-loop
     μ-loop
-    at-most-eight-requires
+    capped-requires
     loop-holds
     mul-party
     array-copy-out-party
