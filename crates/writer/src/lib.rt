@@ -1,9 +1,9 @@
-// The writer: bytes from rows in lent memory.
+// The writer: an entry's bytes, and those of the record that rows in lent memory hold.
 ghost use mathlib.Core.Path.{_≡_};
 ghost use Prim.Native.Nat.{_+_, _≤_};
 ghost use lib.ListN.{length};
 ghost use mathlib.Core.List.{_++_};
-ghost use Rattle.number.specs.Number.{numberBytes};
+ghost use Rattle.number.specs.Number.{numberBytes, Placed};
 ghost use Rattle.record.specs.Entry.{entryBytes};
 ghost use Rattle.rows.specs.Row.{rowFound, rowAt};
 ghost use Rattle.rows.specs.Rows.{rowsHeld, writeOutcome, Leaves};
@@ -185,6 +185,20 @@ fn put_entry(bytes: &mut [u8], at: usize, e: Entry) -> usize
         Entry::Told(client, v) => put_three(bytes, at, 2, client.0 as u32, number::alternating(v)),
         Entry::Done(client) => put_two(bytes, at, 3, client.0 as u32),
     }
+}
+
+// Writes an entry at `at`, or nothing where it doesn't fit from there on.
+pub fn write_entry(bytes: &mut [u8], at: usize, e: Entry) -> Put
+    ensures { λ r. ⌜ Placed (now (bytes .entry)) at (entryBytes e) r (now (bytes .exit)) ⌝ }
+{
+    let room = bytes.len();
+    if room < at {
+        return Put::NoRoom;
+    }
+    if room - at < entry_length(e) {
+        return Put::NoRoom;
+    }
+    Put::Next(put_entry(bytes, at, e))
 }
 
 // Writes the entries that the rows hold.
