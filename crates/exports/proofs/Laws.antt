@@ -41,10 +41,10 @@ Near at next = (at ≤ next) × (next ≤ at + 5)
 pub read-near : (s : List ℕ) (at n next : ℕ) → ((i : ℕ) → getD s i 0 < 256) → numberAt s at ≡ Is n next → Near at next
 read-near s at n next h p = let w = written-read s at n next h p in (omega (arith, w .far), omega (arith, w .far, length-few n))
 
-pub put-near : (d : List ℕ) (at n next : ℕ) → putAnswer d at n ≡ Next next → Near at next
+pub put-near : (d : List ℕ) (at n next : ℕ) → putAnswer d at (numberBytes n) ≡ Next next → Near at next
 put-near d at n next p = elim (decLe (at + length (numberBytes n)) (length d)) [
-  | yes h ↦ (let q = sym (put-fits d at n h) ∙ p in let e : at + length (numberBytes n) ≡ next = cc in (omega arith, omega (arith, length-few n)))
-  | no h ↦ (let q = sym (put-refused d at n (omega (arith, h))) ∙ p in let z : _≡_ {A = ℕ} 0 1 = cc in absurd (omega arith))
+  | yes h ↦ (let q = sym (put-fits d at (numberBytes n) h) ∙ p in let e : at + length (numberBytes n) ≡ next = cc in (omega arith, omega (arith, length-few n)))
+  | no h ↦ (let q = sym (put-refused d at (numberBytes n) (omega (arith, h))) ∙ p in let z : _≡_ {A = ℕ} 0 1 = cc in absurd (omega arith))
 ]
 
 -- an entry that a refusal names is at most 2,048

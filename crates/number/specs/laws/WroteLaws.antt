@@ -8,11 +8,6 @@ use lib.ListN.{length, length-append, take, drop}
 use lib.Seq.{sets, sets-eq, length-sets, take-append-seam}
 use Rattle.number.specs.Wrote.{Wrote}
 
--- how long a list of numbers is, and a bound of it
-pub record Long (numbers : List ℕ) (most : ℕ) (r : ℕ) : Type 0 where
-  pub is : r ≡ length numbers
-  pub few : r ≤ most
-
 pub sets-append : (l : List ℕ) (i : ℕ) (xs ys : List ℕ) → sets (sets l i xs) (i + length xs) ys ≡ sets l i (xs ++ ys)
 sets-append l i [] ys = simp add-zero
 sets-append l i (x ∷ xs) ys = ap (λ (k : ℕ). sets (sets l i (x ∷ xs)) k ys) (omega arith) ∙ sets-append _ (suc i) xs ys
@@ -40,11 +35,3 @@ wrote-front {l} {xs} {r} {l′} h w =
     let e : r ≡ length xs = omega (arith, w .place) in
     let front : take r l′ ≡ xs = ap₂ take e (w .list ∙ sets-front xs l h) ∙ take-append-seam xs (drop (length xs) l) in
     (omega (arith, wrote-length w), front)
-
--- two lists one after the other
-pub length-joined : {a b : ℕ} (xs ys : List ℕ) → a ≡ length xs → b ≡ length ys → a + b ≡ length (xs ++ ys)
-length-joined xs ys p q = simp length-append (omega arith)
-
--- the same with a greater bound
-pub longer : {xs : List ℕ} {most more r : ℕ} → Long xs most r → most ≤ more → Long xs more r
-longer w h = record { is = w .is; few = omega (arith, w .few) }

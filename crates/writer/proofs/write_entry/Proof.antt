@@ -16,7 +16,7 @@ entry-length-requires : tie.Need-entry-length-requires
 entry-length-requires c κs = search needs
 
 returns-2 : tie.Need-returns-2
-returns-2 c = refuses _ _ _ (omega (arith, c .before .entry-length .ensures .is))
+returns-2 c = refuses _ _ _ (omega (arith, c .before .entry-length .ensures))
 
 put-entry-requires : tie.Need-put-entry-requires
 put-entry-requires c κs = search needs
@@ -25,7 +25,7 @@ same-length : tie.Need-same-length
 same-length c = search needs
 
 returns-3 : tie.Need-returns-3
-returns-3 c = places _ _ _ _ _ (omega (arith, c .before .before .before .before .before .entry-length .ensures .is)) (c .before .before .put-entry .ensures)
+returns-3 c = places _ _ _ _ _ (omega (arith, c .before .before .before .before .before .entry-length .ensures)) (c .before .before .put-entry .ensures)
 
 pub write-entry-spec : {M : Type 1} → statement M
 write-entry-spec =
