@@ -5,7 +5,7 @@ use mathlib.Core.List.{List, _++_}
 use lib.ListN.{length, drop}
 use Rattle.record.specs.declared.Entry.{Entry}
 use Rattle.record.specs.declared.Answer.the-variants.{All}
-use Rattle.record.specs.Record.{entries, bytesOf, recordOf}
+use Rattle.record.specs.Record.{entries, bytesOf, bytesHeld}
 use Rattle.rows.specs.Rows.{rowsOf, readOutcome, writeOutcome}
 use Rattle.number.specs.Below.{Bytes}
 use Rattle.verdict.specs.declared.Verdict.the-variants.{Refused as saysRefused}
@@ -16,7 +16,7 @@ use Rattle.verdict.specs.Verdict.{takenFor, Judges}
 pub record ReadsBack (es : List Entry) : Type 0 where
   pub writes : (d : List ℕ) → length (bytesOf es) ≤ length d
       → writeOutcome (rowsOf es) d ≡ record { answer = All (length (bytesOf es)); lent = bytesOf es ++ drop (length (bytesOf es)) d }
-  pub holds : recordOf (bytesOf es) ≡ entries es
+  pub holds : bytesHeld (bytesOf es) ≡ entries es
   pub reads : (d : List ℕ) → 4 * length es ≤ length d → readOutcome (bytesOf es) d ≡ record { answer = All (length es); lent = rowsOf es ++ drop (4 * length es) d }
   pub bytes : Bytes (bytesOf es)
   pub few : length (bytesOf es) ≤ 16384

@@ -16,8 +16,8 @@ use Rattle.law.specs.Standing.{has, standing}
 use Rattle.stamps.specs.declared.Pair.{Pair}
 use Rattle.method.specs.declared.Body.{Body}
 use Rattle.method.specs.declared.Body.the-variants.{Ask, Tell, Keep, Kept}
-use Rattle.method.specs.declared.Held.{Held}
-use Rattle.method.specs.declared.Held.the-variants.{Empty, Full}
+use Rattle.method.specs.declared.InSlot.{InSlot}
+use Rattle.method.specs.declared.InSlot.the-variants.{Empty, Full}
 use Rattle.method.specs.declared.Goal.{Goal}
 use Rattle.method.specs.declared.Goal.the-variants.{Read, Write}
 use Rattle.method.specs.declared.Work.{Work}
@@ -81,7 +81,7 @@ BodySmall (Keep p) = PairSmall p
 BodySmall Kept = Unit {0}
 
 -- the message that the slot holds, if any, has a value of 32 bits
-abbrev pub HeldSmall : Held → Type 0
+abbrev pub HeldSmall : InSlot → Type 0
 HeldSmall Empty = Unit {0}
 HeldSmall (Full m) = BodySmall (m .body)
 
@@ -97,7 +97,7 @@ WorkSmall (Asking cell goal set held) = GoalSmall goal × PairSmall held
 WorkSmall (Keeping cell goal set held) = PairSmall held
 
 -- every value that a read could be told, wherever it now is
-pub record Small (r : Rack) : Type 0 where
+pub record FitsWords (r : Rack) : Type 0 where
   pub pairs : (i : ℕ) → PairSmall (getD (r .pairs) i freshPair)
   pub wire : (i : ℕ) → HeldSmall (heldAt r i)
   pub works : (i : ℕ) → WorkSmall (partyAt r i .work)
@@ -111,7 +111,7 @@ pub record Agrees (r : Rack) : Type 0 where
   pub lines : length (r .lines) ≡ entryLimit
   pub count : length (recordOf r) ≡ r .count
   pub most : r .count ≤ entryLimit
-  pub small : Small r
+  pub small : FitsWords r
   pub within : AllWithin (r .sizes) (recordOf r)
   pub follows : Follows fresh (recordOf r)
   pub stands : (i : ℕ) → i < r .sizes .clients → has (standing (recordOf r)) i ≡ openIn (partyAt r i .work)

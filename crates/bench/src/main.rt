@@ -1,7 +1,7 @@
 // The bench sheet's lines that have no star: run on the product's own calls, a line each in the paper's words, and compared with the file `stdout`.
 ghost use Prim.Native.Nat.{_≤_};
 use libc::STDOUT_FILENO;
-use method::Held;
+use method::InSlot;
 use number::Number;
 use rack::Rack;
 use rack::Ran;
@@ -42,12 +42,12 @@ fn make(words: &[u8], replicas: u32, clients: u32, cells: u32) {
 }
 
 // How many messages a slot holds.
-fn messages(held: Held) -> u64
+fn messages(held: InSlot) -> u64
     ensures { λ r. ⌜ r ≤ 1 ⌝ }
 {
     match held {
-        Held::Empty => 0,
-        Held::Full(_) => 1,
+        InSlot::Empty => 0,
+        InSlot::Full(_) => 1,
     }
 }
 

@@ -1,6 +1,6 @@
 -- One entry more in the table.
 use Prim.Native.Nat.{ℕ, _+_, _-_, _≤_, _<_}
-use mathlib.Core.Path.{_≡_, sym, ap, _∙_, subst}
+use mathlib.Core.Path.{_≡_, refl, sym, ap, _∙_, subst}
 use mathlib.Core.Logic.{_⊎_, inl, inr, ⊎-elim}
 use mathlib.Core.Bool.{true, false, true≢false}
 use mathlib.Core.List.{List}
@@ -12,8 +12,8 @@ use Rattle.chains.specs.declared.Linked.the-variants.{All as allLinked, 
 use Rattle.chains.specs.declared.Write.{Write}
 use Rattle.chains.specs.declared.Write.the-variants.{At, None}
 use Rattle.chains.specs.Chains.{Again, NoneAgain}
-use Rattle.chains.specs.Table.{homeAt, Homed, Latest, Chained, Empty, Found, Linking}
-use Rattle.chains.specs.laws.Entering.{Decides, Entered}
+use Rattle.chains.specs.Table.{homeAt, Homed, Latest, Chained, Empty, Found, Stays, Linking}
+use Rattle.chains.specs.laws.Entering.{Decides, Only, Entered}
 
 -- below n + 1 is n, or below n
 upper : {n p : ℕ} → p < n + 1 → (p ≡ n) ⊎ (p < n)
@@ -50,6 +50,9 @@ module _ {kinds cells values : List ℕ} where
       nexts = λ p l w. ⊎-elim (λ e. absurd (not (ap (λ x. getD kinds x 0) (sym e) ∙ w))) (λ b. t .nexts p b w) (upper l);
     }
 
+    pub pass-only : Only kinds n next next
+    pass-only = record { same = λ q h. refl }
+
     module _ (write : getD kinds n 0 ≡ 1) {b : ℕ} (eb : b ≡ homeAt cells values n) (small : b < 4096) where
       heads-on : (h : ℕ) → h < 4096 → Latest kinds cells values (n + 1) h (getD (set head b (n + 1)) h 0)
       heads-on h sh = elim (ℕ-discrete h b) [
@@ -82,6 +85,9 @@ module _ {kinds cells values : List ℕ} where
         nexts = nexts-on;
       }
 
+      pub next-only : Only kinds n next (set next n (getD head b 0))
+      next-only = record { same = λ q h. getD-set-other next n q (getD head b 0) 0 (λ e. h e write) }
+
   -- whether a write asks again, by what the search for it gave
   pub again-found : {p : ℕ} {w : ℕ} {r : Write} → getD kinds p 0 ≡ 1 → Found kinds cells values p (getD cells p 0) (getD values p 0) r → r ≡ At w → Again kinds cells values p
   again-found {p} {w} k f e = let (l, a) = f .at w e in record { write = k; again = inr (w, (l, a)) }
@@ -103,22 +109,54 @@ tells-yes x = record { yes = λ _. x; no = λ e. absurd (true≢false e) }
 pub tells-no : {P : Type 0} → (P → ⊥) → Decides P false
 tells-no n = record { yes = λ e. absurd (true≢false (sym e)); no = λ _. n }
 
-module _ {kinds cells values : List ℕ} {head next : List ℕ} where
-  pub is-entered : {p : ℕ} → Chained kinds cells values (p + 1) head next → (Again kinds cells values p → ⊥) → Entered kinds cells values p head next true
-  is-entered t n = record { entered = λ _. (t, n); again = λ e. absurd (true≢false e) }
+module _ {kinds cells values : List ℕ} {was head next : List ℕ} where
+  pub is-entered : {before : List ℕ} {p : ℕ} → Chained kinds cells values (p + 1) head next → (Again kinds cells values p → ⊥)
+      → Only kinds p was next → Entered kinds cells values p before was head next true
+  is-entered t n o = record {
+    entered = λ _. (t, n);
+    others = λ _. o;
+    again = λ e. absurd (true≢false e);
+    heads = λ e. absurd (true≢false e);
+    nexts = λ e. absurd (true≢false e);
+  }
 
-  pub not-entered : {p : ℕ} → Again kinds cells values p → Entered kinds cells values p head next false
-  not-entered a = record { entered = λ e. absurd (true≢false (sym e)); again = λ _. a }
-
-  pub links-all : {n p : ℕ} → p ≤ n → n ≤ p → Chained kinds cells values p head next → NoneAgain kinds cells values p → Linking kinds cells values n head next allLinked
-  links-all {n} {p} a b t none =
+  pub links-all : {n p : ℕ} → p ≤ n → n ≤ p → Chained kinds cells values p head next → NoneAgain kinds cells values p → Stays kinds p was next
+      → Linking kinds cells values n was head next allLinked
+  links-all {n} {p} a b t none stays =
       let e : p ≡ n = omega arith in record {
         all = λ _. subst (λ x. NoneAgain kinds cells values x × Chained kinds cells values x head next) e (none, t);
+        all-stays = λ _. subst (λ x. Stays kinds x was next) e stays;
         again = λ q f. (let z : _≡_ {A = ℕ} 0 1 = cc in absurd (omega arith));
+        begun = λ q f. (let z : _≡_ {A = ℕ} 0 1 = cc in absurd (omega arith));
+        begun-stays = λ q f. (let z : _≡_ {A = ℕ} 0 1 = cc in absurd (omega arith));
       }
 
-  pub links-again : {n p : ℕ} → p < n → Again kinds cells values p → NoneAgain kinds cells values p → Linking kinds cells values n head next (againAt p)
-  links-again {n} {p} l a none = record {
+  pub links-again : {n p : ℕ} → p < n → Again kinds cells values p → NoneAgain kinds cells values p → Chained kinds cells values p head next
+      → Stays kinds p was next → Linking kinds cells values n was head next (againAt p)
+  links-again {n} {p} l a none t stays = record {
     all = λ f. (let z : _≡_ {A = ℕ} 0 1 = cc in absurd (omega arith));
+    all-stays = λ f. (let z : _≡_ {A = ℕ} 0 1 = cc in absurd (omega arith));
     again = λ q f. (let e : p ≡ q = cc in subst (λ x. (x < n) × (Again kinds cells values x × NoneAgain kinds cells values x)) e (l, (a, none)));
+    begun = λ q f. (let e : p ≡ q = cc in subst (λ x. Chained kinds cells values x head next) e t);
+    begun-stays = λ q f. (let e : p ≡ q = cc in subst (λ x. Stays kinds x was next) e stays);
   }
+
+-- an entry that asks again leaves all as it was
+pub not-entered : {kinds cells values head next : List ℕ} {p : ℕ} → Again kinds cells values p → Entered kinds cells values p head next head next false
+not-entered a = record {
+  entered = λ e. absurd (true≢false (sym e));
+  others = λ e. absurd (true≢false (sym e));
+  again = λ _. a;
+  heads = λ _. refl;
+  nexts = λ _. refl;
+}
+
+-- next stays, one entry further
+pub stays-on : {kinds was next more : List ℕ} {p : ℕ} → Stays kinds p was next → Only kinds p next more → Stays kinds (p + 1) was more
+stays-on {kinds} s o = record {
+  same = λ q h. o .same q (λ e w. h (omega arith) (ap (λ x. getD kinds x 0) e ∙ w)) ∙ s .same q (λ l w. h (omega arith) w);
+}
+
+-- at first all stays
+pub stays-none : (kinds was : List ℕ) → Stays kinds 0 was was
+stays-none kinds was = record { same = λ q h. refl }

@@ -60,6 +60,7 @@ module _ {kinds cells values : List ℕ} {n : ℕ} {head next : List ℕ} {cell 
     walk-found (ec, ev) = record {
       at = λ x e. (let q : link - 1 ≡ x = cc in let h = w .on some in
           subst (λ y. (y < n) × Asks kinds cells values y cell value) q (h .below, record { write = h .write; cell = ec; value = ev }));
+      latest = λ x e p l b a. (let q : link - 1 ≡ x = cc in omega (arith, w .ahead p b a));
       none = λ e. (let z : _≡_ {A = ℕ} 0 1 = cc in absurd (omega arith));
     }
 
@@ -67,5 +68,6 @@ module _ {kinds cells values : List ℕ} {n : ℕ} {head next : List ℕ} {cell 
   pub walk-none : {link : ℕ} → Walk kinds cells values n head next cell value link → link ≤ 0 → Found kinds cells values n cell value None
   walk-none w e = record {
     at = λ x q. (let z : _≡_ {A = ℕ} 0 1 = cc in absurd (omega arith));
+    latest = λ x q. (let z : _≡_ {A = ℕ} 0 1 = cc in absurd (omega arith));
     none = λ _ p l a. (let b = w .ahead p l a in omega arith);
   }

@@ -43,12 +43,26 @@ pub record Empty (head next : List ℕ) : Type 0 where
   pub next-long : length next ≡ 2048
   pub no-heads : (h : ℕ) → getD head h 0 ≡ 0
 
--- what searching the table gives: a write that asks this, or none does
+-- what searching the table gives: the last write that asks this, or none does
 pub record Found (kinds cells values : List ℕ) (n cell value : ℕ) (r : Write) : Type 0 where
   pub at : (w : ℕ) → r ≡ At w → (w < n) × Asks kinds cells values w cell value
+  pub latest : (w : ℕ) → r ≡ At w → (p : ℕ) → w < p → p < n → Asks kinds cells values p cell value → ⊥
   pub none : r ≡ None → (p : ℕ) → p < n → Asks kinds cells values p cell value → ⊥
 
--- what linking the writes gives: the whole table and none asks again, or the first that does
-pub record Linking (kinds cells values : List ℕ) (n : ℕ) (head next : List ℕ) (r : Linked) : Type 0 where
+-- next stays as it was where no write below n stands
+pub record Stays (kinds : List ℕ) (n : ℕ) (was next : List ℕ) : Type 0 where
+  pub same : (p : ℕ) → (p < n → getD kinds p 0 ≡ 1 → ⊥) → getD next p 0 ≡ getD was p 0
+
+-- what linking the writes gives: the whole table and none asks again; or the first that does, and the table of the writes before it
+pub record Linking (kinds cells values : List ℕ) (n : ℕ) (was head next : List ℕ) (r : Linked) : Type 0 where
   pub all : r ≡ allLinked → NoneAgain kinds cells values n × Chained kinds cells values n head next
+  pub all-stays : r ≡ allLinked → Stays kinds n was next
   pub again : (p : ℕ) → r ≡ againAt p → (p < n) × (Again kinds cells values p × NoneAgain kinds cells values p)
+  pub begun : (p : ℕ) → r ≡ againAt p → Chained kinds cells values p head next
+  pub begun-stays : (p : ℕ) → r ≡ againAt p → Stays kinds p was next
+
+-- two answers that are one, and leave the same table in every number
+pub record SameLink (r r′ : Linked) (head head′ next next′ : List ℕ) : Type 0 where
+  pub answer : r ≡ r′
+  pub heads : head ≡ head′
+  pub nexts : next ≡ next′

@@ -129,7 +129,7 @@ fn enter(
     next: &mut [u16; 2048],
 ) -> bool
     requires { ⌜ (p < 2048) × Chained (now kinds) (now cells) (now values) p (now head) (now next) ⌝ }
-    ensures { λ r. ⌜ Entered (now (kinds .entry)) (now (cells .entry)) (now (values .entry)) p (now (head .exit)) (now (next .exit)) r ⌝ }
+    ensures { λ r. ⌜ Entered (now (kinds .entry)) (now (cells .entry)) (now (values .entry)) p (now (head .entry)) (now (next .entry)) (now (head .exit)) (now (next .exit)) r ⌝ }
 {
     if kinds[p] != 1 {
         return true;
@@ -154,7 +154,7 @@ pub fn link(
     next: &mut [u16; 2048],
 ) -> Linked
     requires { ⌜ (n ≤ 2048) × Empty (now head) (now next) ⌝ }
-    ensures { λ r. ⌜ Linking (now (kinds .entry)) (now (cells .entry)) (now (values .entry)) n (now (head .exit)) (now (next .exit)) r ⌝ }
+    ensures { λ r. ⌜ Linking (now (kinds .entry)) (now (cells .entry)) (now (values .entry)) n (now (next .entry)) (now (head .exit)) (now (next .exit)) r ⌝ }
 {
     let mut p: usize = 0;
     while p < n {

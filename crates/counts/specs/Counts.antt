@@ -57,8 +57,8 @@ lostBy (On replica) = 0
 lostBy Unknown = 0
 
 -- a count over the events of a run that were done
-unfoldable pub countOf : (Event → Plan → ℕ) → Rack → ℕ → List ℕ → ℕ
-countOf f r allowance ws = countOver f (runOf r allowance ws .done) r ws
+unfoldable pub totalOf : (Event → Plan → ℕ) → Rack → ℕ → List ℕ → ℕ
+totalOf f r allowance ws = countOver f (runOf r allowance ws .done) r ws
 
 -- the counts of a run
 pub record Tally : Type 0 where
@@ -70,10 +70,10 @@ pub record Tally : Type 0 where
 -- what a run sends, copies, delivers and loses, each counted from the events done
 abbrev pub tallyOf : Rack → ℕ → List ℕ → Tally
 tallyOf r allowance ws = record {
-  sent = countOf sentBy r allowance ws;
-  copied = countOf (λ e p. copiedBy e) r allowance ws;
-  delivered = countOf (λ e p. deliveredBy e) r allowance ws;
-  lost = countOf (λ e p. lostBy e) r allowance ws;
+  sent = totalOf sentBy r allowance ws;
+  copied = totalOf (λ e p. copiedBy e) r allowance ws;
+  delivered = totalOf (λ e p. deliveredBy e) r allowance ws;
+  lost = totalOf (λ e p. lostBy e) r allowance ws;
 }
 
 -- ---- requests

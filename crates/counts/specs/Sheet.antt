@@ -5,7 +5,7 @@ use mathlib.Core.List.{List, [], _∷_, _++_}
 use Rattle.rack.specs.declared.Rack.{Rack}
 use Rattle.rack.specs.Places.{recordOf}
 use Rattle.rack.specs.Run.{freshRack, runOf}
-use Rattle.counts.specs.Counts.{inUse, countOf, tallyOf, requestsBy, endsOf}
+use Rattle.counts.specs.Counts.{inUse, totalOf, tallyOf, requestsBy, endsOf}
 
 -- an event in four words: a slot is delivered
 abbrev deliver : ℕ → List ℕ
@@ -31,4 +31,4 @@ pub record CountLine : Type 0 where
   pub used : inUse (after .wire) ≡ 2
   -- the write has ended, and has cost 2 requests to each of 3 replicas
   pub ended : endsOf 0 (recordOf after) ≡ 1
-  pub requests : countOf (requestsBy 0 1) (freshRack 3 1 1) 9 schedule ≡ 6
+  pub requests : totalOf (requestsBy 0 1) (freshRack 3 1 1) 9 schedule ≡ 6

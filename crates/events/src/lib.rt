@@ -8,10 +8,10 @@ ghost use Rattle.number.specs.Value.{signedOf};
 ghost use Rattle.method.specs.About.{clientIn, clientOf};
 ghost use Rattle.rack.specs.Sound.{owedIn};
 ghost use Rattle.rack.specs.Run.{byte, eventOf, inRack, slotOf, placeIn, freed, checked};
+use method::Decision;
 use method::Event;
-use method::Held;
+use method::InSlot;
 use method::Note;
-use method::Outcome;
 use method::Party;
 use rack::Rack;
 use rack::Sizes;
@@ -188,12 +188,12 @@ fn place(x: u8) -> usize
 }
 
 // The client that a slot's message is about; 0 where it is empty.
-fn client_in(held: Held) -> usize
+fn client_in(held: InSlot) -> usize
     ensures { λ r. ⌜ r ≡ clientIn held ⌝ }
 {
     match held {
-        Held::Empty => 0,
-        Held::Full(m) => {
+        InSlot::Empty => 0,
+        InSlot::Full(m) => {
             let client = m.client;
             place(client.0)
         }
@@ -201,12 +201,12 @@ fn client_in(held: Held) -> usize
 }
 
 // The place of the pair that a slot's message is about; 0 where it is empty.
-pub fn place_in(held: Held) -> usize
+pub fn place_in(held: InSlot) -> usize
     ensures { λ r. ⌜ r ≡ placeIn held ⌝ }
 {
     match held {
-        Held::Empty => 0,
-        Held::Full(m) => {
+        InSlot::Empty => 0,
+        InSlot::Full(m) => {
             let replica = m.replica;
             let cell = m.cell;
             16 * place(replica.0) + place(cell.0)
@@ -215,7 +215,7 @@ pub fn place_in(held: Held) -> usize
 }
 
 // An event's client: the one it names, else its message's.
-pub fn client_of(event: Event, held: Held) -> usize
+pub fn client_of(event: Event, held: InSlot) -> usize
     ensures { λ r. ⌜ r ≡ clientOf event held ⌝ }
 {
     match event {
@@ -254,11 +254,11 @@ fn short(room: usize, clear: bool, to: u16) -> bool
 }
 
 // 13: more to send than free slots.
-fn sent(outcome: Outcome, room: usize, clear: bool, to: u16) -> Outcome
-    ensures { λ r. ⌜ r ≡ cond (ltb (room + freed clear) (ones to)) (Outcome.No 13) outcome ⌝ }
+fn sent(outcome: Decision, room: usize, clear: bool, to: u16) -> Decision
+    ensures { λ r. ⌜ r ≡ cond (ltb (room + freed clear) (ones to)) (Decision.No 13) outcome ⌝ }
 {
     if short(room, clear, to) {
-        return Outcome::No(13);
+        return Decision::No(13);
     }
     outcome
 }
@@ -276,24 +276,24 @@ fn crowded(count: usize, owed: usize) -> bool
 // The refusals that every plan has to pass: 11 with as many entries and these clients, and 13 with as much room. The answers owed are counted for a start
 // alone: no other plan asks for them.
 pub fn checked(
-    outcome: Outcome,
+    outcome: Decision,
     count: usize,
     parties: [Party; 8],
     clients: u8,
     room: usize,
-) -> Outcome
+) -> Decision
     ensures { λ r. ⌜ r ≡ checked outcome (count + owedIn clients parties) room ⌝ }
 {
     match outcome {
-        Outcome::No(k) => Outcome::No(k),
-        Outcome::Go(plan) => {
+        Decision::No(k) => Decision::No(k),
+        Decision::Go(plan) => {
             let note = plan.note;
             match note {
                 Note::Nothing => sent(outcome, room, plan.clear, plan.to),
                 Note::Ended(_) => sent(outcome, room, plan.clear, plan.to),
                 Note::Asked(_) => {
                     if crowded(count, owed_by_all(parties, clients)) {
-                        return Outcome::No(11);
+                        return Decision::No(11);
                     }
                     sent(outcome, room, plan.clear, plan.to)
                 }

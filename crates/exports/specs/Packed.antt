@@ -11,7 +11,7 @@ use Rattle.verdict.specs.declared.Verdict.{Verdict}
 use Rattle.verdict.specs.declared.Verdict.the-variants.{Lawful as saysLawful, Unlawful as saysUnlawful, Refused as saysRefused}
 use Rattle.record.specs.declared.Answer.{Answer}
 use Rattle.record.specs.declared.Answer.the-variants.{All, Refused as Unread}
-use Rattle.layout.specs.declared.Answer.{Answer as Done}
+use Rattle.layout.specs.declared.WordsAnswer.{WordsAnswer as Done}
 
 -- a number that was read at place at: itself and how many bytes it takes
 unfoldable pub packedNumber : ℕ → Number → ℕ

@@ -1,3 +1,4 @@
 -- Laws: what is proved, and the definitions that only proofs need.
 pub mod OnlyOne
-pub mod Small
+pub mod Bounds
+pub mod Unpacking

@@ -1,15 +1,14 @@
 // The calls for C and Rust: include/adzequarry.h has their declarations. An enum can't cross to C, so an answer is packed into one number.
 ghost use mathlib.Core.Path.{_≡_};
-ghost use Prim.Native.Nat.{_^_, _<_};
 ghost use Rattle.number.specs.Number.{numberBytes, numberAt, putAnswer, putBytes};
 ghost use Rattle.number.specs.Value.{alternatingOf, signedOf};
 ghost use Rattle.rows.specs.Rows.{readOutcome, writeOutcome};
 ghost use Rattle.exports.specs.Packed.{packedNumber, packedPut, packedAnswer, packedVerdict, Judged, packedRun};
-ghost use Rattle.exports.specs.laws.Small.{Small, Brief};
+ghost use Rattle.exports.specs.Unpacked.{AnswerFits, VerdictFits, RunFits};
 ghost use Rattle.layout.specs.Calls.{madeOutcome, runOutcome};
 use number::Number;
 use number::Put;
-use record::Answer;
+use record::WordsAnswer;
 use verdict::Verdict;
 
 // The number at a place, with how many bytes it takes.
@@ -51,13 +50,13 @@ pub extern "C" fn adze_signed(n: u32) -> i32
 }
 
 // A record's answer as one number.
-fn packed(a: Answer) -> u64
-    requires { ⌜ Small a ⌝ }
+fn packed(a: WordsAnswer) -> u64
+    requires { ⌜ AnswerFits a ⌝ }
     ensures { λ r. ⌜ r ≡ packedAnswer a ⌝ }
 {
     match a {
-        Answer::All(n) => n as u64,
-        Answer::Refused(k, n) => 4294967296 * (k as u64) + n as u64,
+        WordsAnswer::All(n) => n as u64,
+        WordsAnswer::Refused(k, n) => 4294967296 * (k as u64) + n as u64,
     }
 }
 
@@ -81,7 +80,7 @@ pub extern "C" fn adze_write_record(rows: &[u32], bytes: &mut [u8]) -> u64
 
 // A verdict as one number.
 fn packed_verdict(v: Verdict) -> u64
-    requires { ⌜ Brief v ⌝ }
+    requires { ⌜ VerdictFits v ⌝ }
     ensures { λ r. ⌜ r ≡ packedVerdict v ⌝ }
 {
     match v {
@@ -101,8 +100,8 @@ pub extern "C" fn adze_verdict(bytes: &[u8]) -> u64
 }
 
 // What was done on a rack as one number.
-fn packed_run(a: layout::Answer) -> u64
-    requires { ⌜ a .done < 2 ^ 32 ⌝ }
+fn packed_run(a: layout::WordsAnswer) -> u64
+    requires { ⌜ RunFits a ⌝ }
     ensures { λ r. ⌜ r ≡ packedRun a ⌝ }
 {
     4294967296 * (a.refusal as u64) + a.done as u64

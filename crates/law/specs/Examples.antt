@@ -13,9 +13,9 @@ abbrev pub writes : ℕ → ℕ → ℤ → Entry
 writes client cell value = WriteAsked (record { 0 = client }) (record { 0 = cell }) value
 
 -- the entry that ends a read and gives the value, by the number of its client
-abbrev pub told : ℕ → ℤ → Entry
-told client value = Told (record { 0 = client }) value
+abbrev pub toldBy : ℕ → ℤ → Entry
+toldBy client value = Told (record { 0 = client }) value
 
 -- the entry that ends a write, by the number of its client
-abbrev pub done : ℕ → Entry
-done client = Done (record { 0 = client })
+abbrev pub doneBy : ℕ → Entry
+doneBy client = Done (record { 0 = client })

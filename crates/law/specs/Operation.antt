@@ -8,7 +8,7 @@ use Rattle.record.specs.declared.Entry.{Entry}
 use Rattle.record.specs.declared.Entry.the-variants.{ReadAsked, WriteAsked, Told, Done}
 
 -- An operation: its start entry's number, its client and cell, whether it is a write, its value (of a write what was asked, of a
--- read what was told), its start, whether it is finished, and its stop if so.
+-- read what was endTold), its start, whether it is finished, and its stop if so.
 pub record Op : Type 0 where
   pub number : ℕ
   pub client : ℕ
@@ -37,20 +37,20 @@ finished time value x =
 abbrev pub openOf : ℕ → Op → Bool
 openOf client x = eqb (x .client) client && not (x .over)
 
--- told: the client's open operation gives the value
-abbrev pub told : ℕ → ℕ → ℤ → Op → Op
-told time client value x = cond (openOf client x) (finished time value x) x
+-- endTold: the client's open operation gives the value
+abbrev pub endTold : ℕ → ℕ → ℤ → Op → Op
+endTold time client value x = cond (openOf client x) (finished time value x) x
 
--- done: the client's open operation ends, its value as asked
-abbrev pub done : ℕ → ℕ → Op → Op
-done time client x = cond (openOf client x) (finished time (x .value) x) x
+-- endDone: the client's open operation ends, its value as asked
+abbrev pub endDone : ℕ → ℕ → Op → Op
+endDone time client x = cond (openOf client x) (finished time (x .value) x) x
 
 -- the operations after entry n, in the order of their starts
 unfoldable pub note : ℕ → Entry → List Op → List Op
 note n (ReadAsked client cell) ops = ops ++ (asked n (client .0) (cell .0) false (pos 0) (timeOf n (ReadAsked client cell)) ∷ [])
 note n (WriteAsked client cell value) ops = ops ++ (asked n (client .0) (cell .0) true value (timeOf n (WriteAsked client cell value)) ∷ [])
-note n (Told client value) ops = map (told (timeOf n (Told client value)) (client .0) value) ops
-note n (Done client) ops = map (done (timeOf n (Done client)) (client .0)) ops
+note n (Told client value) ops = map (endTold (timeOf n (Told client value)) (client .0) value) ops
+note n (Done client) ops = map (endDone (timeOf n (Done client)) (client .0)) ops
 
 -- the operations after the entries es, of which the first has number n
 unfoldable pub notes : ℕ → List Entry → List Op → List Op

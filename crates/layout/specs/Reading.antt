@@ -10,8 +10,8 @@ use Rattle.record.specs.Record.{entryLimit}
 use Rattle.stamps.specs.declared.Pair.{Pair}
 use Rattle.method.specs.declared.Body.{Body}
 use Rattle.method.specs.declared.Body.the-variants.{Ask, Tell, Keep, Kept}
-use Rattle.method.specs.declared.Held.{Held}
-use Rattle.method.specs.declared.Held.the-variants.{Empty, Full}
+use Rattle.method.specs.declared.InSlot.{InSlot}
+use Rattle.method.specs.declared.InSlot.the-variants.{Empty, Full}
 use Rattle.rack.specs.declared.Slot.{Slot}
 use Rattle.method.specs.declared.Goal.{Goal}
 use Rattle.method.specs.declared.Goal.the-variants.{Read, Write}
@@ -81,11 +81,11 @@ unfoldable pub messageKnown : ℕ → ℕ → ℕ → Bool
 messageKnown mark body op = eqb mark 1 && (ltb body 4 && ltb op 65536)
 
 -- a message that no rack has: its client is 255
-abbrev pub strayHeld : Held
+abbrev pub strayHeld : InSlot
 strayHeld = Full (record { client = record { 0 = 255 }; replica = record { 0 = 0 }; cell = record { 0 = 0 }; op = 0; body = Ask })
 
 -- the message of a full slot at a place
-unfoldable pub fullIn : List ℕ → ℕ → Held
+unfoldable pub fullIn : List ℕ → ℕ → InSlot
 fullIn ws at =
     Full (record {
       client = record { 0 = byteOf (word ws (at + 2)) };
@@ -96,7 +96,7 @@ fullIn ws at =
     })
 
 -- what the slot at a place holds; what is no message is read as the stray one
-unfoldable pub heldOf : List ℕ → ℕ → Held
+unfoldable pub heldOf : List ℕ → ℕ → InSlot
 heldOf ws at =
     cond (eqb (word ws at) 0) Empty (cond (messageKnown (word ws at) (word ws (at + 1)) (word ws (at + 5))) (fullIn ws at) strayHeld)
 
@@ -123,12 +123,12 @@ unfoldable pub linesIn : ℕ → List ℕ → List Line
 linesIn n ws = firsts n (λ i. lineIn ws (entryPlace i)) ++ drop n (replicate entryLimit blank)
 
 -- how many entries there are to look at
-unfoldable pub countOf : List ℕ → ℕ
-countOf ws = min (word ws 4) entryLimit
+unfoldable pub entryCount : List ℕ → ℕ
+entryCount ws = min (word ws 4) entryLimit
 
 -- the count of entries: 2,049 where it is no count, or where one of them is no entry
 unfoldable pub countIn : List ℕ → ℕ
-countIn ws = cond (ltb entryLimit (word ws 4) || not (allBelow (countOf ws) (λ i. lineKnown ws (entryPlace i)))) 2049 (word ws 4)
+countIn ws = cond (ltb entryLimit (word ws 4) || not (allBelow (entryCount ws) (λ i. lineKnown ws (entryPlace i)))) 2049 (word ws 4)
 
 -- ---- the rack
 
@@ -155,5 +155,5 @@ rackOf ws =
       parties = firsts 8 (λ i. partyIn ws (partyPlace i));
       pairs = firsts 240 (λ i. pairIn ws (pairPlace i));
       wire = firsts slotLimit (λ i. slotIn ws (slotPlace i));
-      lines = linesIn (countOf ws) ws;
+      lines = linesIn (entryCount ws) ws;
     }

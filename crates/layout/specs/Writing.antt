@@ -13,8 +13,8 @@ use Rattle.rows.specs.Row.{rowOf}
 use Rattle.stamps.specs.declared.Pair.{Pair}
 use Rattle.method.specs.declared.Body.{Body}
 use Rattle.method.specs.declared.Body.the-variants.{Ask, Tell, Keep, Kept}
-use Rattle.method.specs.declared.Held.{Held}
-use Rattle.method.specs.declared.Held.the-variants.{Empty, Full}
+use Rattle.method.specs.declared.InSlot.{InSlot}
+use Rattle.method.specs.declared.InSlot.the-variants.{Empty, Full}
 use Rattle.method.specs.declared.Goal.{Goal}
 use Rattle.method.specs.declared.Goal.the-variants.{Read, Write}
 use Rattle.method.specs.declared.Work.{Work}
@@ -77,7 +77,7 @@ bodyWords (Keep p) = pairWords p
 bodyWords Kept = noPair
 
 -- a slot, empty or full
-unfoldable pub slotWords : Held → List ℕ
+unfoldable pub slotWords : InSlot → List ℕ
 slotWords Empty = replicate 9 0
 slotWords (Full m) = (1 ∷ bodyKind (m .body) ∷ m .client .0 ∷ m .replica .0 ∷ m .cell .0 ∷ m .op ∷ []) ++ bodyWords (m .body)
 

@@ -3,7 +3,7 @@ use Prim.Native.Nat.{ℕ}
 use mathlib.Core.Path.{_≡_}
 use mathlib.Core.List.{List}
 use lib.ListN.{length}
-use Rattle.record.specs.Below.{Words}
+use Rattle.number.specs.Below.{Words}
 use Rattle.layout.specs.Layout.{wordCount}
 use Rattle.layout.specs.Calls.{madeOutcome, runOutcome}
 

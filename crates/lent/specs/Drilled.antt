@@ -2,7 +2,7 @@
 use mathlib.Core.Path.{_≡_}
 use mathlib.Core.List.{List, _++_}
 use Prim.Native.Nat.{ℕ}
-use Rattle.record.specs.Record.{entries, bytesOf, recordOf as readOf}
+use Rattle.record.specs.Record.{entries, bytesOf, bytesHeld}
 use Rattle.law.specs.Operation.{operations}
 use Rattle.law.specs.Order.{Lawful}
 use Rattle.rack.specs.declared.Ran.{Ran}
@@ -18,6 +18,6 @@ pub record Drilled (q : Ran) (text : List ℕ) : Type 0 where
   pub lines : text ≡ ranText q
   pub before : List ℕ
   pub last : text ≡ before ++ (recordStart ++ (hexText (bytesOf (recordOf (q .rack))) ++ lineFeed))
-  pub reads : readOf (bytesOf (recordOf (q .rack))) ≡ entries (recordOf (q .rack))
+  pub reads : bytesHeld (bytesOf (recordOf (q .rack))) ≡ entries (recordOf (q .rack))
   pub lawful : Lawful (operations (recordOf (q .rack)))
   pub back : ReadsBack (recordOf (q .rack))

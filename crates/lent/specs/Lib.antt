@@ -4,6 +4,5 @@ pub mod Called
 pub mod Handed
 pub mod Together
 pub mod Drilled
-pub mod laws
 -- What is proved of them.
 pub mod laws

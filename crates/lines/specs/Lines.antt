@@ -10,8 +10,8 @@ use Rattle.stamps.specs.declared.Pair.{Pair}
 use Rattle.method.specs.declared.Body.{Body}
 use Rattle.method.specs.declared.Body.the-variants.{Ask, Tell, Keep, Kept}
 use Rattle.method.specs.declared.Message.{Message}
-use Rattle.method.specs.declared.Held.{Held}
-use Rattle.method.specs.declared.Held.the-variants.{Empty, Full}
+use Rattle.method.specs.declared.InSlot.{InSlot}
+use Rattle.method.specs.declared.InSlot.the-variants.{Empty, Full}
 use Rattle.method.specs.declared.Goal.{Goal}
 use Rattle.method.specs.declared.Goal.the-variants.{Read, Write}
 use Rattle.method.specs.declared.Work.{Work}
@@ -61,7 +61,7 @@ abbrev pub messageText : Message → List ℕ
 messageText m = kindText (m .body) ++ (namesText (m .client .0) (m .replica .0) (m .cell .0) (m .op) ++ bodyPair (m .body))
 
 -- slot i and its message; an empty slot has no line
-abbrev pub slotLine : ℕ → Held → List ℕ
+abbrev pub slotLine : ℕ → InSlot → List ℕ
 slotLine i Empty = []
 slotLine i (Full m) = field slotStart i ++ (messageText m ++ lineFeed)
 

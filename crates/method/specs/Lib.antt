@@ -5,5 +5,6 @@ pub mod Method
 pub mod Answers
 pub mod Examples
 pub mod Same
+pub mod Pins
 -- What is proved of them.
 pub mod laws

@@ -16,8 +16,8 @@ use Rattle.stamps.specs.Stamp.{stampLess, freshPair}
 use Rattle.method.specs.declared.Body.{Body}
 use Rattle.method.specs.declared.Body.the-variants.{Ask, Tell, Keep, Kept}
 use Rattle.method.specs.declared.Message.{Message}
-use Rattle.method.specs.declared.Held.{Held}
-use Rattle.method.specs.declared.Held.the-variants.{Full}
+use Rattle.method.specs.declared.InSlot.{InSlot}
+use Rattle.method.specs.declared.InSlot.the-variants.{Full}
 use Rattle.method.specs.declared.Goal.{Goal}
 use Rattle.method.specs.declared.Goal.the-variants.{Read, Write}
 use Rattle.method.specs.declared.Work.{Work}
@@ -68,7 +68,7 @@ endEntry (Write v) client held = Done client
 -- ---- messages
 
 -- the slot held message m with body b, and it is client c's
-pub record Got (c : ℕ) (held : Held) (m : Message) (b : Body) : Type 0 where
+pub record Got (c : ℕ) (held : InSlot) (m : Message) (b : Body) : Type 0 where
   pub here : held ≡ Full m
   pub client : m .client .0 ≡ c
   pub body : m .body ≡ b
@@ -87,7 +87,7 @@ Request (Asking x goal set held) cell body = (cell ≡ x .0) × (body ≡ Ask)
 Request (Keeping x goal set held) cell body = (cell ≡ x .0) × (body ≡ Keep held)
 
 -- what an event sends that changes nothing: nothing, the slot's message once more, or the present request
-pub data Repeats (s : Sight) (client : ℕ) (held : Held) (p : Plan) : Type 0 where
+pub data Repeats (s : Sight) (client : ℕ) (held : InSlot) (p : Plan) : Type 0 where
   none : p .to ≡ 0 → Repeats s client held p
   copy : (m : Message) → Got client held m (m .body) → p .message ≡ m → p .to ≡ withReplica 0 (m .replica .0) → Repeats s client held p
   again : (cell : ℕ) (body : Body) → Request (s .party .work) cell body → Says p client cell (s .party .op) body → Repeats s client held p
@@ -103,7 +103,7 @@ pub record Still (s : Sight) (p : Plan) : Type 0 where
 -- ---- the cases
 
 -- the client's work, the pair and the record stay; the power may change, a client may stop, the slot become empty, and a message go out once more
-pub record Rests (s : Sight) (client : ℕ) (held : Held) (p : Plan) : Type 0 where
+pub record Rests (s : Sight) (client : ℕ) (held : InSlot) (p : Plan) : Type 0 where
   pub still : Still s p
   pub pair : p .pair ≡ s .pair
   pub sends : Repeats s client held p
@@ -120,7 +120,7 @@ pub record Starts (s : Sight) (client : ℕ) (p : Plan) : Type 0 where
   pub says : Says p client (cell .0) (s .party .op + 1) Ask
 
 -- a replica answers an ask: it tells its pair
-pub record Tells (s : Sight) (client : ℕ) (held : Held) (p : Plan) : Type 0 where
+pub record Tells (s : Sight) (client : ℕ) (held : InSlot) (p : Plan) : Type 0 where
   pub message : Message
   pub got : Got client held message Ask
   pub still : Still s p
@@ -129,7 +129,7 @@ pub record Tells (s : Sight) (client : ℕ) (held : Held) (p : Plan) : Type 0 wh
   pub to : p .to ≡ withReplica 0 (message .replica .0)
 
 -- a replica is given a keep: its pair is raised, and it answers kept either way
-pub record Takes (s : Sight) (client : ℕ) (held : Held) (p : Plan) : Type 0 where
+pub record Takes (s : Sight) (client : ℕ) (held : InSlot) (p : Plan) : Type 0 where
   pub message : Message
   pub given : Pair
   pub got : Got client held message (Keep given)
@@ -139,7 +139,7 @@ pub record Takes (s : Sight) (client : ℕ) (held : Held) (p : Plan) : Type 0 wh
   pub to : p .to ≡ withReplica 0 (message .replica .0)
 
 -- a tell that counts: it is for the present operation, in the ask phase, of a replica not yet in the set (that the client isn't stopped isn't needed here)
-pub record Heard (s : Sight) (client : ℕ) (held : Held) : Type 0 where
+pub record Heard (s : Sight) (client : ℕ) (held : InSlot) : Type 0 where
   pub message : Message
   pub told : Pair
   pub got : Got client held message (Tell told)
@@ -154,11 +154,11 @@ pub record Heard (s : Sight) (client : ℕ) (held : Held) : Type 0 where
   pub holds : Holds set pair told after
 
 -- the set with the replica that told
-abbrev pub heardSet : {s : Sight} {client : ℕ} {held : Held} → Heard s client held → ℕ
+abbrev pub heardSet : {s : Sight} {client : ℕ} {held : InSlot} → Heard s client held → ℕ
 heardSet h = withReplica (h .set) (h .message .replica .0)
 
 -- the ask phase goes on
-pub record Hears (s : Sight) (client : ℕ) (held : Held) (p : Plan) : Type 0 where
+pub record Hears (s : Sight) (client : ℕ) (held : InSlot) (p : Plan) : Type 0 where
   pub heard : Heard s client held
   pub op : p .party .op ≡ s .party .op
   pub work : p .party .work ≡ Asking (heard .cell) (heard .goal) (heardSet heard) (heard .after)
@@ -167,7 +167,7 @@ pub record Hears (s : Sight) (client : ℕ) (held : Held) (p : Plan) : Type 0 wh
   pub to : p .to ≡ 0
 
 -- the ask phase ends with enough: the set is emptied, what is sent is a keep of the pair that is then held
-pub record Chooses (s : Sight) (client : ℕ) (held : Held) (p : Plan) : Type 0 where
+pub record Chooses (s : Sight) (client : ℕ) (held : InSlot) (p : Plan) : Type 0 where
   pub heard : Heard s client held
   pub enough : asksEnough (s .replicas) (heardSet heard) ≡ true
   pub chosen : Pair
@@ -179,7 +179,7 @@ pub record Chooses (s : Sight) (client : ℕ) (held : Held) (p : Plan) : Type 0 
   pub says : Says p client (heard .cell .0) (s .party .op) (Keep chosen)
 
 -- a kept that counts: it is for the present operation, in the keep phase, of a replica not yet in the set (that the client isn't stopped isn't needed here)
-pub record Counted (s : Sight) (client : ℕ) (held : Held) : Type 0 where
+pub record Counted (s : Sight) (client : ℕ) (held : InSlot) : Type 0 where
   pub message : Message
   pub got : Got client held message Kept
   pub op : s .party .op ≡ message .op
@@ -191,11 +191,11 @@ pub record Counted (s : Sight) (client : ℕ) (held : Held) : Type 0 where
   pub new : hasReplica set (message .replica .0) ≡ false
 
 -- the set with the replica that kept
-abbrev pub countedSet : {s : Sight} {client : ℕ} {held : Held} → Counted s client held → ℕ
+abbrev pub countedSet : {s : Sight} {client : ℕ} {held : InSlot} → Counted s client held → ℕ
 countedSet h = withReplica (h .set) (h .message .replica .0)
 
 -- the keep phase goes on
-pub record Counts (s : Sight) (client : ℕ) (held : Held) (p : Plan) : Type 0 where
+pub record Counts (s : Sight) (client : ℕ) (held : InSlot) (p : Plan) : Type 0 where
   pub counted : Counted s client held
   pub op : p .party .op ≡ s .party .op
   pub work : p .party .work ≡ Keeping (counted .cell) (counted .goal) (countedSet counted) (counted .pair)
@@ -204,7 +204,7 @@ pub record Counts (s : Sight) (client : ℕ) (held : Held) (p : Plan) : Type 0 w
   pub to : p .to ≡ 0
 
 -- the operation ends, a read as well as a write, with enough that kept: the record gets its entry, the client is idle
-pub record Ends (s : Sight) (client : ℕ) (held : Held) (p : Plan) : Type 0 where
+pub record Ends (s : Sight) (client : ℕ) (held : InSlot) (p : Plan) : Type 0 where
   pub counted : Counted s client held
   pub enough : keepsEnough (s .replicas) (countedSet counted) ≡ true
   pub op : p .party .op ≡ s .party .op
@@ -214,7 +214,7 @@ pub record Ends (s : Sight) (client : ℕ) (held : Held) (p : Plan) : Type 0 whe
   pub to : p .to ≡ 0
 
 -- What an event does that saw s and the slot, and is about this client.
-pub data Does (s : Sight) (client : ℕ) (held : Held) (p : Plan) : Type 0 where
+pub data Does (s : Sight) (client : ℕ) (held : InSlot) (p : Plan) : Type 0 where
   rests : Rests s client held p → Does s client held p
   starts : Starts s client p → Does s client held p
   tells : Tells s client held p → Does s client held p

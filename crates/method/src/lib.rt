@@ -23,7 +23,7 @@ pub struct Message {
 }
 
 // What a slot of the wire holds.
-pub enum Held {
+pub enum InSlot {
     Empty,
     Full(Message),
 }
@@ -100,7 +100,7 @@ pub struct Plan {
 }
 
 // An event is refused, or done as planned.
-pub enum Outcome {
+pub enum Decision {
     No(u8),
     Go(Plan),
 }

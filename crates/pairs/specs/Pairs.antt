@@ -9,7 +9,7 @@ use lib.Dec.{T}
 use Rattle.number.specs.Value.{alternatingOf}
 use Rattle.record.specs.declared.Entry.{Entry}
 use Rattle.record.specs.declared.Answer.{Answer}
-use Rattle.record.specs.Record.{entries, recordOf, surveyOf}
+use Rattle.record.specs.Record.{entries, bytesHeld, surveyOf}
 use Rattle.law.specs.Operation.{Op, operations}
 use Rattle.law.specs.Order.{In}
 
@@ -42,5 +42,5 @@ pub record Paired (ops : List Op) (n : ℕ) (kinds cells values starts : List �
 
 -- what the first pass has to do: it answers as the reader's survey does, and the arrays hold the operations of a record without a fault
 pub record PairsUp (s : List ℕ) (r : Answer) (kinds cells values starts : List ℕ) : Type 0 where
-  pub answer : r ≡ surveyOf (recordOf s)
-  pub paired : (es : List Entry) → recordOf s ≡ entries es → Paired (operations es) (length es) kinds cells values starts
+  pub answer : r ≡ surveyOf (bytesHeld s)
+  pub paired : (es : List Entry) → bytesHeld s ≡ entries es → Paired (operations es) (length es) kinds cells values starts

@@ -3,7 +3,7 @@ ghost use mathlib.Core.Path.{_≡_};
 ghost use Prim.Native.Nat.{_<_, _≤_};
 ghost use Rattle.record.specs.Legal.{InRange};
 ghost use Rattle.pairs.specs.Pairs.{PairsUp};
-ghost use Rattle.pairs.specs.laws.Noting.{Long, Low, startRow, endRow, rowOf, Noted};
+ghost use Rattle.pairs.specs.laws.Noting.{Long, Low, startRow, endRow, noteRow, Noted};
 use record::Answer;
 use record::Entry;
 use record::Found;
@@ -70,7 +70,7 @@ fn end_row(cells: &[u8; 2048], opened: &[u16; 8], client: u8, kind: u8, value: u
 // Of entry n, whatever its kind.
 fn row_of(cells: &[u8; 2048], opened: &[u16; 8], n: usize, e: Entry) -> Row
     requires { ⌜ (n < 2048) × InRange e × Low (now opened) ⌝ }
-    ensures { λ r. ⌜ r ≡ rowOf (now (cells .entry)) (now (opened .entry)) n e ⌝ }
+    ensures { λ r. ⌜ r ≡ noteRow (now (cells .entry)) (now (opened .entry)) n e ⌝ }
 {
     match e {
         Entry::ReadAsked(client, cell) => start_row(n, client.0, 0, cell.0, 0),
@@ -97,7 +97,7 @@ fn note_entry(
     e: Entry,
 )
     requires { ⌜ (n < 2048) × InRange e × Low (now opened) ⌝ }
-    ensures { λ r. ⌜ Noted (now (kinds .entry)) (now (cells .entry)) (now (values .entry)) (now (starts .entry)) (now (opened .entry)) n (rowOf (now (cells .entry)) (now (opened .entry)) n e) (now (kinds .exit)) (now (cells .exit)) (now (values .exit)) (now (starts .exit)) (now (opened .exit)) ⌝ }
+    ensures { λ r. ⌜ Noted (now (kinds .entry)) (now (cells .entry)) (now (values .entry)) (now (starts .entry)) (now (opened .entry)) n (noteRow (now (cells .entry)) (now (opened .entry)) n e) (now (kinds .exit)) (now (cells .exit)) (now (values .exit)) (now (starts .exit)) (now (opened .exit)) ⌝ }
 {
     let row = row_of(cells, opened, n, e);
     let k = row.client as usize;

@@ -5,15 +5,15 @@ ghost use Prim.Native.Nat.{_<_};
 ghost use Rattle.quorum.specs.Sets.{others};
 ghost use Rattle.method.specs.declared.Note.the-variants.{Nothing, Ended};
 ghost use Rattle.method.specs.declared.Work.the-variants.{Idle, Asking};
-ghost use Rattle.method.specs.Plan.{messageOf, partyAt, planned, usedUp, answered, started, startOf, askOf, keepOf, current, keepsOf, phaseEnds, holds, tellCounts, tellIn, tellOf};
-ghost use Rattle.method.specs.Plan.{lastEntry, keptCounts, keptIn, keptOf, deliverOf, copyOf, resendOf, noMessage, stopOf, powered, offOf, onOf, ofSlot, planOf};
+ghost use Rattle.method.specs.Plan.{messageOf, activeParty, planned, usedUp, answered, started, startOf, askOf, keepOf, current, keepsOf, phaseEnds, holds, tellCounts, tellIn};
+ghost use Rattle.method.specs.Plan.{tellOf, lastEntry, keptCounts, keptIn, keptOf, deliverOf, copyOf, resendOf, noMessage, stopOf, powered, offOf, onOf, ofSlot, planOf};
 use method::Body;
+use method::Decision;
 use method::Event;
 use method::Goal;
-use method::Held;
+use method::InSlot;
 use method::Message;
 use method::Note;
-use method::Outcome;
 use method::Party;
 use method::Plan;
 use method::Sight;
@@ -41,7 +41,7 @@ fn message_of(client: Client, replica: Replica, cell: Cell, op: u16, body: Body)
 
 // A client that isn't stopped.
 fn at_work(op: u16, work: Work) -> Party
-    ensures { λ r. ⌜ r ≡ partyAt op work ⌝ }
+    ensures { λ r. ⌜ r ≡ activeParty op work ⌝ }
 {
     Party {
         stopped: false,
@@ -58,7 +58,7 @@ fn planned(
     note: Note,
     message: Message,
     to: u16,
-) -> Outcome
+) -> Decision
     ensures { λ r. ⌜ r ≡ planned sight party clear note message to ⌝ }
 {
     let pair = sight.pair;
@@ -71,11 +71,11 @@ fn planned(
         message: message,
         to: to,
     };
-    Outcome::Go(plan)
+    Decision::Go(plan)
 }
 
 // The message is used up and nothing else happens.
-fn used_up(sight: Sight, m: Message) -> Outcome
+fn used_up(sight: Sight, m: Message) -> Decision
     ensures { λ r. ⌜ r ≡ usedUp sight m ⌝ }
 {
     let party = sight.party;
@@ -83,7 +83,7 @@ fn used_up(sight: Sight, m: Message) -> Outcome
 }
 
 // The replica's pair after the event, and its answer.
-fn answered(sight: Sight, after: Pair, m: Message, body: Body) -> Outcome
+fn answered(sight: Sight, after: Pair, m: Message, body: Body) -> Decision
     ensures { λ r. ⌜ r ≡ answered sight after m body ⌝ }
 {
     let client = m.client;
@@ -99,11 +99,11 @@ fn answered(sight: Sight, after: Pair, m: Message, body: Body) -> Outcome
         message: message_of(client, replica, cell, m.op, body),
         to: quorum::with(0, replica),
     };
-    Outcome::Go(plan)
+    Decision::Go(plan)
 }
 
 // The operation number rises by one, the record gets an entry, an ask goes to every replica.
-fn started(sight: Sight, op: u16, client: Client, cell: Cell, goal: Goal, entry: Entry) -> Outcome
+fn started(sight: Sight, op: u16, client: Client, cell: Cell, goal: Goal, entry: Entry) -> Decision
     requires { ⌜ op < 65535 ⌝ }
     ensures { λ r. ⌜ r ≡ started sight op client cell goal entry ⌝ }
 {
@@ -125,12 +125,12 @@ fn started(sight: Sight, op: u16, client: Client, cell: Cell, goal: Goal, entry:
 }
 
 // Start read, start write.
-fn start(sight: Sight, client: Client, cell: Cell, goal: Goal, entry: Entry) -> Outcome
+fn start(sight: Sight, client: Client, cell: Cell, goal: Goal, entry: Entry) -> Decision
     ensures { λ r. ⌜ r ≡ startOf sight client cell goal entry ⌝ }
 {
     let party = sight.party;
     if party.stopped {
-        return Outcome::No(5);
+        return Decision::No(5);
     }
     let work = party.work;
     match work {
@@ -139,17 +139,17 @@ fn start(sight: Sight, client: Client, cell: Cell, goal: Goal, entry: Entry) -> 
             goal: _,
             set: _,
             held: _,
-        } => Outcome::No(6),
+        } => Decision::No(6),
         Work::Keeping {
             cell: _,
             goal: _,
             set: _,
             held: _,
-        } => Outcome::No(6),
+        } => Decision::No(6),
         Work::Idle => {
             let op = party.op;
             if op == 65535 {
-                return Outcome::No(10);
+                return Decision::No(10);
             }
             started(sight, op, client, cell, goal, entry)
         }
@@ -157,7 +157,7 @@ fn start(sight: Sight, client: Client, cell: Cell, goal: Goal, entry: Entry) -> 
 }
 
 // The replica answers tell with its pair for that cell.
-fn ask(sight: Sight, m: Message) -> Outcome
+fn ask(sight: Sight, m: Message) -> Decision
     ensures { λ r. ⌜ r ≡ askOf sight m ⌝ }
 {
     let replica = m.replica;
@@ -165,11 +165,11 @@ fn ask(sight: Sight, m: Message) -> Outcome
     if quorum::has(sight.power, replica) {
         return answered(sight, pair, m, Body::Tell(pair));
     }
-    Outcome::No(8)
+    Decision::No(8)
 }
 
 // The replica takes stamp and value if the stamp is greater than its own; it answers kept either way.
-fn keep(sight: Sight, m: Message, q: Pair) -> Outcome
+fn keep(sight: Sight, m: Message, q: Pair) -> Decision
     ensures { λ r. ⌜ r ≡ keepOf sight m q ⌝ }
 {
     let replica = m.replica;
@@ -177,7 +177,7 @@ fn keep(sight: Sight, m: Message, q: Pair) -> Outcome
     if quorum::has(sight.power, replica) {
         return answered(sight, raise(pair, q), m, Body::Kept);
     }
-    Outcome::No(8)
+    Decision::No(8)
 }
 
 // The client isn't stopped, and the operation number is that of its present operation.
@@ -191,7 +191,7 @@ fn current(party: Party, m: Message) -> bool
 }
 
 // The set is emptied and keep goes to every replica, with the pair that is then held.
-fn keeps(sight: Sight, m: Message, cell: Cell, goal: Goal, held: Pair) -> Outcome
+fn keeps(sight: Sight, m: Message, cell: Cell, goal: Goal, held: Pair) -> Decision
     ensures { λ r. ⌜ r ≡ keepsOf sight m cell goal held ⌝ }
 {
     let client = m.client;
@@ -213,7 +213,7 @@ fn keeps(sight: Sight, m: Message, cell: Cell, goal: Goal, held: Pair) -> Outcom
 }
 
 // The ask phase ends: for a read with the held pair, for a write with the next number, the client's own rank and the new value.
-fn phase_ends(sight: Sight, m: Message, cell: Cell, goal: Goal, held: Pair) -> Outcome
+fn phase_ends(sight: Sight, m: Message, cell: Cell, goal: Goal, held: Pair) -> Decision
     ensures { λ r. ⌜ r ≡ phaseEnds goal sight m cell held ⌝ }
 {
     match goal {
@@ -222,7 +222,7 @@ fn phase_ends(sight: Sight, m: Message, cell: Cell, goal: Goal, held: Pair) -> O
             let s = held.stamp;
             let number = s.number;
             if number == 4294967295 {
-                return Outcome::No(12);
+                return Decision::No(12);
             }
             let client = m.client;
             let next = number + 1;
@@ -250,7 +250,7 @@ fn hold(set: u16, held: Pair, q: Pair) -> Pair
 }
 
 // A tell that counts: at a majority the phase ends in that same delivery.
-fn tell_counts(sight: Sight, m: Message, cell: Cell, goal: Goal, set: u16, held: Pair) -> Outcome
+fn tell_counts(sight: Sight, m: Message, cell: Cell, goal: Goal, set: u16, held: Pair) -> Decision
     ensures { λ r. ⌜ r ≡ tellCounts sight m cell goal set held ⌝ }
 {
     if quorum::asks_enough(sight.replicas, set) {
@@ -281,7 +281,7 @@ fn tell_asking(
     set: u16,
     held: Pair,
     q: Pair,
-) -> Outcome
+) -> Decision
     ensures { λ r. ⌜ r ≡ tellIn (Asking cell goal set held) sight m q ⌝ }
 {
     let teller = m.replica;
@@ -299,7 +299,7 @@ fn tell_asking(
 }
 
 // A tell counts only in the ask phase.
-fn tell_in(work: Work, sight: Sight, m: Message, q: Pair) -> Outcome
+fn tell_in(work: Work, sight: Sight, m: Message, q: Pair) -> Decision
     ensures { λ r. ⌜ r ≡ tellIn work sight m q ⌝ }
 {
     match work {
@@ -319,7 +319,7 @@ fn tell_in(work: Work, sight: Sight, m: Message, q: Pair) -> Outcome
     }
 }
 
-fn tell(sight: Sight, m: Message, q: Pair) -> Outcome
+fn tell(sight: Sight, m: Message, q: Pair) -> Decision
     ensures { λ r. ⌜ r ≡ tellOf sight m q ⌝ }
 {
     let party = sight.party;
@@ -341,8 +341,8 @@ fn last_entry(goal: Goal, client: Client, held: Pair) -> Entry
 }
 
 // The operation ends: the record gets its entry, the client is idle.
-fn ended(sight: Sight, m: Message, goal: Goal, held: Pair) -> Outcome
-    ensures { λ r. ⌜ r ≡ planned sight (partyAt (sight .party .op) Idle) true (Ended (lastEntry goal (m .client) held)) m 0 ⌝ }
+fn ended(sight: Sight, m: Message, goal: Goal, held: Pair) -> Decision
+    ensures { λ r. ⌜ r ≡ planned sight (activeParty (sight .party .op) Idle) true (Ended (lastEntry goal (m .client) held)) m 0 ⌝ }
 {
     let client = m.client;
     let entry = last_entry(goal, client, held);
@@ -357,7 +357,7 @@ fn ended(sight: Sight, m: Message, goal: Goal, held: Pair) -> Outcome
 }
 
 // A kept that counts: at a majority the operation ends, the record gets its entry, the client is idle.
-fn kept_counts(sight: Sight, m: Message, cell: Cell, goal: Goal, set: u16, held: Pair) -> Outcome
+fn kept_counts(sight: Sight, m: Message, cell: Cell, goal: Goal, set: u16, held: Pair) -> Decision
     ensures { λ r. ⌜ r ≡ keptCounts sight m cell goal set held ⌝ }
 {
     if quorum::keeps_enough(sight.replicas, set) {
@@ -380,7 +380,7 @@ fn kept_counts(sight: Sight, m: Message, cell: Cell, goal: Goal, set: u16, held:
 }
 
 // A kept counts only in the keep phase, and if this replica isn't yet in the set.
-fn kept_in(work: Work, sight: Sight, m: Message) -> Outcome
+fn kept_in(work: Work, sight: Sight, m: Message) -> Decision
     ensures { λ r. ⌜ r ≡ keptIn work sight m ⌝ }
 {
     match work {
@@ -406,7 +406,7 @@ fn kept_in(work: Work, sight: Sight, m: Message) -> Outcome
     }
 }
 
-fn kept(sight: Sight, m: Message) -> Outcome
+fn kept(sight: Sight, m: Message) -> Decision
     ensures { λ r. ⌜ r ≡ keptOf sight m ⌝ }
 {
     let party = sight.party;
@@ -418,7 +418,7 @@ fn kept(sight: Sight, m: Message) -> Outcome
 }
 
 // The message is taken out, then acted on.
-fn deliver(sight: Sight, m: Message) -> Outcome
+fn deliver(sight: Sight, m: Message) -> Decision
     ensures { λ r. ⌜ r ≡ deliverOf sight m ⌝ }
 {
     let body = m.body;
@@ -431,7 +431,7 @@ fn deliver(sight: Sight, m: Message) -> Outcome
 }
 
 // The same message also in the lowest free slot.
-fn copy(sight: Sight, m: Message) -> Outcome
+fn copy(sight: Sight, m: Message) -> Decision
     ensures { λ r. ⌜ r ≡ copyOf sight m ⌝ }
 {
     let replica = m.replica;
@@ -447,7 +447,7 @@ fn copy(sight: Sight, m: Message) -> Outcome
 }
 
 // The present request, once more to each replica not in the set.
-fn again(sight: Sight, client: Client, cell: Cell, set: u16, body: Body) -> Outcome
+fn again(sight: Sight, client: Client, cell: Cell, set: u16, body: Body) -> Decision
     ensures { λ r. ⌜ r ≡ planned sight (sight .party) false Nothing (messageOf client (record { 0 = 0 }) cell (sight .party .op) body) (others (sight .replicas) set) ⌝ }
 {
     let party = sight.party;
@@ -462,16 +462,16 @@ fn again(sight: Sight, client: Client, cell: Cell, set: u16, body: Body) -> Outc
 }
 
 // Resend: the stamp isn't chosen anew.
-fn resend(sight: Sight, client: Client) -> Outcome
+fn resend(sight: Sight, client: Client) -> Decision
     ensures { λ r. ⌜ r ≡ resendOf sight client ⌝ }
 {
     let party = sight.party;
     if party.stopped {
-        return Outcome::No(5);
+        return Decision::No(5);
     }
     let work = party.work;
     match work {
-        Work::Idle => Outcome::No(7),
+        Work::Idle => Decision::No(7),
         Work::Asking {
             cell,
             goal: _,
@@ -495,12 +495,12 @@ fn no_message() -> Message
 }
 
 // It never acts again; its operation stays open.
-fn stop(sight: Sight) -> Outcome
+fn stop(sight: Sight) -> Decision
     ensures { λ r. ⌜ r ≡ stopOf sight ⌝ }
 {
     let party = sight.party;
     if party.stopped {
-        return Outcome::No(5);
+        return Decision::No(5);
     }
     let work = party.work;
     let stopped = Party {
@@ -512,7 +512,7 @@ fn stop(sight: Sight) -> Outcome
 }
 
 // A replica is switched: its pairs stay.
-fn powered(sight: Sight, after: u16) -> Outcome
+fn powered(sight: Sight, after: u16) -> Decision
     ensures { λ r. ⌜ r ≡ powered sight after ⌝ }
 {
     let party = sight.party;
@@ -526,59 +526,59 @@ fn powered(sight: Sight, after: u16) -> Outcome
         message: no_message(),
         to: 0,
     };
-    Outcome::Go(plan)
+    Decision::Go(plan)
 }
 
-fn off(sight: Sight, replica: Replica) -> Outcome
+fn off(sight: Sight, replica: Replica) -> Decision
     ensures { λ r. ⌜ r ≡ offOf sight replica ⌝ }
 {
     if quorum::has(sight.power, replica) {
         return powered(sight, quorum::without(sight.power, replica));
     }
-    Outcome::No(9)
+    Decision::No(9)
 }
 
-fn on(sight: Sight, replica: Replica) -> Outcome
+fn on(sight: Sight, replica: Replica) -> Decision
     ensures { λ r. ⌜ r ≡ onOf sight replica ⌝ }
 {
     if quorum::has(sight.power, replica) {
-        return Outcome::No(9);
+        return Decision::No(9);
     }
     powered(sight, quorum::with(sight.power, replica))
 }
 
 // What a slot holds is delivered.
-fn deliver_held(sight: Sight, held: Held) -> Outcome
+fn deliver_held(sight: Sight, held: InSlot) -> Decision
     ensures { λ r. ⌜ r ≡ ofSlot (deliverOf sight) held ⌝ }
 {
     match held {
-        Held::Empty => Outcome::No(4),
-        Held::Full(m) => deliver(sight, m),
+        InSlot::Empty => Decision::No(4),
+        InSlot::Full(m) => deliver(sight, m),
     }
 }
 
 // What a slot holds is lost.
-fn lose_held(sight: Sight, held: Held) -> Outcome
+fn lose_held(sight: Sight, held: InSlot) -> Decision
     ensures { λ r. ⌜ r ≡ ofSlot (usedUp sight) held ⌝ }
 {
     match held {
-        Held::Empty => Outcome::No(4),
-        Held::Full(m) => used_up(sight, m),
+        InSlot::Empty => Decision::No(4),
+        InSlot::Full(m) => used_up(sight, m),
     }
 }
 
 // What a slot holds is copied.
-fn copy_held(sight: Sight, held: Held) -> Outcome
+fn copy_held(sight: Sight, held: InSlot) -> Decision
     ensures { λ r. ⌜ r ≡ ofSlot (copyOf sight) held ⌝ }
 {
     match held {
-        Held::Empty => Outcome::No(4),
-        Held::Full(m) => copy(sight, m),
+        InSlot::Empty => Decision::No(4),
+        InSlot::Full(m) => copy(sight, m),
     }
 }
 
 // The plan for an event, with what its slot holds.
-pub fn plan(sight: Sight, held: Held, event: Event) -> Outcome
+pub fn plan(sight: Sight, held: InSlot, event: Event) -> Decision
     ensures { λ r. ⌜ r ≡ planOf sight held event ⌝ }
 {
     match event {
@@ -603,6 +603,6 @@ pub fn plan(sight: Sight, held: Held, event: Event) -> Outcome
         Event::Stop(_) => stop(sight),
         Event::Off(replica) => off(sight, replica),
         Event::On(replica) => on(sight, replica),
-        Event::Unknown => Outcome::No(3),
+        Event::Unknown => Decision::No(3),
     }
 }

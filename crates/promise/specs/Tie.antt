@@ -19,8 +19,8 @@ use Rattle.stamps.specs.StampOrder.{stampOf}
 use Rattle.method.specs.declared.Body.{Body}
 use Rattle.method.specs.declared.Body.the-variants.{Ask, Tell, Keep, Kept}
 use Rattle.method.specs.declared.Message.{Message}
-use Rattle.method.specs.declared.Held.{Held}
-use Rattle.method.specs.declared.Held.the-variants.{Empty, Full}
+use Rattle.method.specs.declared.InSlot.{InSlot}
+use Rattle.method.specs.declared.InSlot.the-variants.{Empty, Full}
 use Rattle.method.specs.declared.Goal.{Goal}
 use Rattle.method.specs.declared.Goal.the-variants.{Read, Write}
 use Rattle.method.specs.declared.Work.{Work}
@@ -86,9 +86,9 @@ abbrev pub OnWire : Setting → View → (ℕ → ℕ → ℕ) → (ℕ → ℕ)
 OnWire S v name op m = (m .op ≤ op (m .client .0)) × Means S v (name (m .client .0) (m .op)) (m .replica .0) (m .cell .0) (m .body)
 
 -- what holds of a slot's message
-abbrev pub InSlot : (Message → Type 0) → Held → Type 0
-InSlot P Empty = Unit {0}
-InSlot P (Full m) = P m
+abbrev pub Holding : (Message → Type 0) → InSlot → Type 0
+Holding P Empty = Unit {0}
+Holding P (Full m) = P m
 
 -- a client's operation number
 abbrev pub opOf : Rack → ℕ → ℕ
@@ -132,7 +132,7 @@ pub record Tie (r : Rack) (v : View) (name : ℕ → ℕ → ℕ) : Type 0 where
   -- every pair is the view's
   pub pairs : (k x : ℕ) → k < r .sizes .replicas → x < r .sizes .cells → v .pair k x ≡ pairOf (pairAt r k x)
   -- every message on the wire means something true
-  pub wire : (i : ℕ) → InSlot (OnWire (settingOf (r .sizes .replicas)) v name (opOf r)) (heldAt r i)
+  pub wire : (i : ℕ) → Holding (OnWire (settingOf (r .sizes .replicas)) v name (opOf r)) (heldAt r i)
   -- the record shows the operations
   pub book : Book (v .ops) (operations (recordOf r))
 

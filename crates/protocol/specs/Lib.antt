@@ -5,5 +5,6 @@ pub mod Move
 pub mod Invariant
 pub mod Tagged
 pub mod Later
+pub mod Examples
 -- What is proved of them.
 pub mod laws

@@ -1,5 +1,6 @@
 -- Laws: what is proved, and the definitions that only proofs need.
 pub mod Bits
+pub mod FloatingPins
 pub mod SetLaws
 pub mod Members
 pub mod LowestMember

@@ -6,8 +6,8 @@ use Rattle.rack.specs.declared.Rack.{Rack}
 use Rattle.method.specs.declared.Event.{Event}
 use Rattle.method.specs.declared.Event.the-variants.{StartRead, StartWrite, Deliver, Lose, Copy, Resend, Stop, Off, On, Unknown}
 use Rattle.method.specs.declared.Plan.{Plan}
-use Rattle.method.specs.declared.Outcome.{Outcome}
-use Rattle.method.specs.declared.Outcome.the-variants.{No, Go}
+use Rattle.method.specs.declared.Decision.{Decision}
+use Rattle.method.specs.declared.Decision.the-variants.{No, Go}
 use Rattle.rack.specs.Run.{eventOf, decided, appliedOf}
 
 -- messages sent, counted from the events done; what a copy puts in a slot isn't sent anew
@@ -37,7 +37,7 @@ deliveredBy (On replica) = 0
 deliveredBy Unknown = 0
 
 -- what is counted of an event if it is done, and of those after it; a refusal ends the count
-unfoldable pub counted : (Event → Plan → ℕ) → Rack → Event → Outcome → (Rack → ℕ) → ℕ
+unfoldable pub counted : (Event → Plan → ℕ) → Rack → Event → Decision → (Rack → ℕ) → ℕ
 counted f r e (No k) next = 0
 counted f r e (Go p) next = f e p + next (appliedOf r e p)
 

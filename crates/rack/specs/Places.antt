@@ -8,8 +8,8 @@ use Rattle.record.specs.declared.Entry.the-variants.{Done}
 use Rattle.slots.specs.Free.{slotCount, countFree, firstFree}
 use Rattle.stamps.specs.declared.Pair.{Pair}
 use Rattle.method.specs.declared.Message.{Message}
-use Rattle.method.specs.declared.Held.{Held}
-use Rattle.method.specs.declared.Held.the-variants.{Empty, Full}
+use Rattle.method.specs.declared.InSlot.{InSlot}
+use Rattle.method.specs.declared.InSlot.the-variants.{Empty, Full}
 use Rattle.rack.specs.declared.Slot.{Slot}
 use Rattle.method.specs.declared.Work.the-variants.{Idle}
 use Rattle.method.specs.declared.Party.{Party}
@@ -50,15 +50,15 @@ abbrev pub pairAt : Rack → ℕ → ℕ → Pair
 pairAt r k x = getD (r .pairs) (pairPlace k x) freshPair
 
 -- what slot i of a wire holds
-abbrev pub heldIn : List Slot → ℕ → Held
+abbrev pub heldIn : List Slot → ℕ → InSlot
 heldIn wire i = getD wire i empty .held
 
 -- what slot i of the rack's wire holds
-abbrev pub heldAt : Rack → ℕ → Held
+abbrev pub heldAt : Rack → ℕ → InSlot
 heldAt r i = heldIn (r .wire) i
 
 -- whether a slot holds no message
-abbrev pub isEmpty : Held → Bool
+abbrev pub isEmpty : InSlot → Bool
 isEmpty Empty = true
 isEmpty (Full m) = false
 

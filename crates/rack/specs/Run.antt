@@ -9,8 +9,8 @@ use Rattle.number.specs.Value.{signedOf}
 use Rattle.record.specs.Record.{entryLimit}
 use Rattle.quorum.specs.Sets.{everyReplica, membersOf}
 use Rattle.method.specs.declared.Message.{Message}
-use Rattle.method.specs.declared.Held.{Held}
-use Rattle.method.specs.declared.Held.the-variants.{Empty, Full}
+use Rattle.method.specs.declared.InSlot.{InSlot}
+use Rattle.method.specs.declared.InSlot.the-variants.{Empty, Full}
 use Rattle.rack.specs.declared.Slot.{Slot}
 use Rattle.rack.specs.declared.Line.{Line}
 use Rattle.rack.specs.declared.Sizes.{Sizes}
@@ -20,8 +20,8 @@ use Rattle.method.specs.declared.Event.the-variants.{StartRead, StartWrite, Del
 use Rattle.method.specs.declared.Note.{Note}
 use Rattle.method.specs.declared.Note.the-variants.{Nothing, Asked, Ended}
 use Rattle.method.specs.declared.Plan.{Plan}
-use Rattle.method.specs.declared.Outcome.{Outcome}
-use Rattle.method.specs.declared.Outcome.the-variants.{No, Go}
+use Rattle.method.specs.declared.Decision.{Decision}
+use Rattle.method.specs.declared.Decision.the-variants.{No, Go}
 use Rattle.rack.specs.declared.Made.{Made}
 use Rattle.rack.specs.declared.Ran.{Ran}
 use Rattle.stamps.specs.Stamp.{freshPair}
@@ -100,14 +100,14 @@ slotOf (On replica) = 0
 slotOf Unknown = 0
 
 -- the place of the pair that a slot's message is about; 0 where it is empty
-unfoldable pub placeIn : Held → ℕ
+unfoldable pub placeIn : InSlot → ℕ
 placeIn Empty = 0
 placeIn (Full m) = pairPlace (m .replica .0) (m .cell .0)
 
 -- ---- the refusals that every plan has to pass
 
 -- 11: start, and entries + answers owed + 2 exceeds 2,048; taken is entries + answers owed
-unfoldable pub noted : Note → ℕ → Outcome → Outcome
+unfoldable pub noted : Note → ℕ → Decision → Decision
 noted Nothing taken o = o
 noted (Asked e) taken o = cond (ltb entryLimit (taken + 2)) (No 11) o
 noted (Ended e) taken o = o
@@ -118,12 +118,12 @@ freed true = 1
 freed false = 0
 
 -- 11, then 13: more to send than free slots
-unfoldable pub checked : Outcome → ℕ → ℕ → Outcome
+unfoldable pub checked : Decision → ℕ → ℕ → Decision
 checked (No k) taken room = No k
 checked (Go p) taken room = noted (p .note) taken (cond (ltb (room + freed (p .clear)) (ones (p .to))) (No 13) (Go p))
 
 -- the plan for an event, with 3 first: a number not in this rack
-unfoldable pub decided : Rack → Event → Outcome
+unfoldable pub decided : Rack → Event → Decision
 decided r e =
     let held = heldAt r (slotOf e) in
     cond (inRack (r .sizes) e)
@@ -182,7 +182,7 @@ abbrev pub ranOf : ℕ → ℕ → Rack → Ran
 ranOf done refusal r = record { done = done; refusal = refusal; rack = r }
 
 -- a refusal stops the schedule; else it goes on with the rack after the event
-unfoldable pub turn : ℕ → Rack → Event → Outcome → (Rack → Ran) → Ran
+unfoldable pub turn : ℕ → Rack → Event → Decision → (Rack → Ran) → Ran
 turn done r e (No k) next = ranOf done k r
 turn done r e (Go p) next = next (appliedOf r e p)
 

@@ -13,8 +13,8 @@ use Rattle.stamps.specs.declared.Pair.{Pair}
 use Rattle.method.specs.declared.Body.{Body}
 use Rattle.method.specs.declared.Body.the-variants.{Ask, Tell, Keep, Kept}
 use Rattle.method.specs.declared.Message.{Message}
-use Rattle.method.specs.declared.Held.{Held}
-use Rattle.method.specs.declared.Held.the-variants.{Empty, Full}
+use Rattle.method.specs.declared.InSlot.{InSlot}
+use Rattle.method.specs.declared.InSlot.the-variants.{Empty, Full}
 use Rattle.method.specs.declared.Work.{Work}
 use Rattle.method.specs.declared.Work.the-variants.{Idle, Asking, Keeping}
 use Rattle.rack.specs.declared.Sizes.{Sizes}
@@ -57,7 +57,7 @@ messageFits z m =
     (ltb (m .client .0) (z .clients) && ltb (m .replica .0) (z .replicas)) && (ltb (m .cell .0) (z .cells) && bodyFits z (m .body))
 
 -- a slot is empty, or its message names only what the rack has
-unfoldable pub heldFits : Sizes → Held → Bool
+unfoldable pub heldFits : Sizes → InSlot → Bool
 heldFits z Empty = true
 heldFits z (Full m) = messageFits z m
 

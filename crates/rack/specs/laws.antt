@@ -1,4 +1,5 @@
 -- Laws: what is proved, and the definitions that only proofs need.
+pub mod FloatingPins
 pub mod Tests
 pub mod SoundLaws
 pub mod PlanLaws

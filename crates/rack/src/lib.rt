@@ -3,14 +3,14 @@
 pub mod maker;
 pub mod owed;
 
-use method::Held;
+use method::InSlot;
 use method::Party;
 use record::Entry;
 use stamps::Pair;
 
 // A slot of the wire.
 pub struct Slot {
-    pub held: Held,
+    pub held: InSlot,
 }
 
 // A place of the record.

@@ -8,7 +8,7 @@ use crate::Made;
 use crate::Rack;
 use crate::Sizes;
 use crate::Slot;
-use method::Held;
+use method::InSlot;
 use method::Party;
 use method::Work;
 use record::Client;
@@ -64,7 +64,9 @@ fn fresh(replicas: u8, clients: u8, cells: u8) -> Rack
 {
     let party = idle();
     let pair = fresh_pair();
-    let slot = Slot { held: Held::Empty };
+    let slot = Slot {
+        held: InSlot::Empty,
+    };
     let line = Line {
         entry: Entry::Done(Client(0)),
     };

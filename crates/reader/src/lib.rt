@@ -2,7 +2,7 @@
 ghost use mathlib.Core.Path.{_≡_};
 ghost use Rattle.number.specs.Number.{numberAt};
 ghost use Rattle.record.specs.Entry.{upTo, fieldsAt, entryAt};
-ghost use Rattle.record.specs.Record.{recordOf, surveyOf};
+ghost use Rattle.record.specs.Record.{bytesHeld, surveyOf};
 ghost use Rattle.reader.specs.Head.{underHead, placeAfter, headAfter};
 ghost use Rattle.reader.specs.laws.Survey.{begun, goesOn, stopped, afterFound, answerOf};
 use number::Number;
@@ -186,7 +186,7 @@ fn answer_of(progress: Progress) -> Answer
 
 // How many entries the bytes hold, or the first fault. One head takes them all.
 pub fn survey(s: &[u8]) -> Answer
-    ensures { λ r. ⌜ r ≡ surveyOf (recordOf (now (s .entry))) ⌝ }
+    ensures { λ r. ⌜ r ≡ surveyOf (bytesHeld (now (s .entry))) ⌝ }
 {
     let mut head = ReadingHead { bytes: s, place: 0 };
     let mut progress = begun();

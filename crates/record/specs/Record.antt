@@ -67,8 +67,8 @@ heldFrom more found (suc left) at n st =
     cond (more at) (enter n st (found at) (λ next st′. heldFrom more found left next (n + 1) st′)) (entries [])
 
 -- what the bytes s hold
-unfoldable pub recordOf : List ℕ → Held
-recordOf s = heldFrom (λ at. ltb at (length s)) (entryAt s) entryLimit 0 0 fresh
+unfoldable pub bytesHeld : List ℕ → Held
+bytesHeld s = heldFrom (λ at. ltb at (length s)) (entryAt s) entryLimit 0 0 fresh
 
 -- the numbers of each entry, one after another
 unfoldable pub allOf : (Entry → List ℕ) → List Entry → List ℕ

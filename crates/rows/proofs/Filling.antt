@@ -10,7 +10,7 @@ use Rattle.record.specs.declared.Entry.{Entry}
 use Rattle.record.specs.declared.Found.the-variants.{At, Fault}
 use Rattle.record.specs.declared.Answer.the-variants.{All, Refused}
 use Rattle.record.specs.Entry.{entryAt}
-use Rattle.record.specs.Record.{fresh, recordOf, Held, entries, fault, surveyOf}
+use Rattle.record.specs.Record.{fresh, bytesHeld, Held, entries, fault, surveyOf}
 use Rattle.rows.specs.Row.{rowOf}
 use Rattle.rows.specs.Rows.{rowsOf, refused, readInto, readOutcome, Outcome}
 use Rattle.rows.specs.laws.RowLaws.{row-length, rows-length}
@@ -18,14 +18,14 @@ use Rattle.rows.specs.laws.Storing.{Storable, Going, Next, step, same-go
 
 pub record Filling (s rows₀ : List ℕ) (n : ℕ) (rows : List ℕ) (at i : ℕ) : Type 0 where
   pub all : List Entry
-  pub held : recordOf s ≡ entries all
+  pub held : bytesHeld s ≡ entries all
   pub fits : length (rowsOf all) ≤ length rows₀
   pub going : Going (λ j. ltb j (length s)) (entryAt s) rowOf rows₀ all rows at (4 * i)
   pub count : i + length (going .rest) ≡ n
 
 -- before the first entry
-pub fills : (s rows : List ℕ) (n : ℕ) → Storable (recordOf s) n rows → Filling s rows n rows 0 0
-unfolding recordOf
+pub fills : (s rows : List ℕ) (n : ℕ) → Storable (bytesHeld s) n rows → Filling s rows n rows 0 0
+unfolding bytesHeld
 fills s rows n w = record {
   all = w .all;
   held = w .held;

@@ -8,7 +8,7 @@ use lib.Dec.{ltb, leb}
 use Rattle.record.specs.declared.Entry.{Entry}
 use Rattle.record.specs.declared.Answer.{Answer}
 use Rattle.record.specs.declared.Answer.the-variants.{All, Refused}
-use Rattle.record.specs.Record.{entryLimit, fresh, Held, entries, fault, heldFrom, recordOf, allOf, bytesOf}
+use Rattle.record.specs.Record.{entryLimit, fresh, Held, entries, fault, heldFrom, bytesHeld, allOf, bytesOf}
 use Rattle.rows.specs.Row.{rowOf, rowAt}
 
 -- the rows of a record
@@ -50,7 +50,7 @@ writeInto (entries es) d = stored (bytesOf es) (length (bytesOf es)) d
 
 -- the reader: bytes to rows
 abbrev pub readOutcome : List ℕ → List ℕ → Outcome
-readOutcome s d = readInto (recordOf s) d
+readOutcome s d = readInto (bytesHeld s) d
 
 -- the writer: rows to bytes
 abbrev pub writeOutcome : List ℕ → List ℕ → Outcome

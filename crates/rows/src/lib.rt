@@ -3,7 +3,7 @@ ghost use mathlib.Core.Path.{_≡_};
 ghost use Prim.Native.Nat.{_+_, _≤_};
 ghost use lib.ListN.{length};
 ghost use lib.Seq.{sets};
-ghost use Rattle.record.specs.Record.{recordOf};
+ghost use Rattle.record.specs.Record.{bytesHeld};
 ghost use Rattle.rows.specs.Row.{rowOf, roomAt, storedAt};
 ghost use Rattle.rows.specs.Rows.{readOutcome, Leaves};
 ghost use Rattle.rows.specs.laws.Storing.{Storable};
@@ -55,7 +55,7 @@ pub fn store_row(rows: &mut [u32], at: usize, e: Entry) -> bool
 
 // Stores the n entries that the bytes hold.
 fn store_rows(s: &[u8], n: usize, rows: &mut [u32])
-    requires { ⌜ Storable (recordOf (now s)) n (now rows) ⌝ }
+    requires { ⌜ Storable (bytesHeld (now s)) n (now rows) ⌝ }
     ensures { λ r. ⌜ now (rows .exit) ≡ readOutcome (now (s .entry)) (now (rows .entry)) .lent ⌝ }
 {
     let mut at = 0;

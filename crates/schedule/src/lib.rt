@@ -5,11 +5,11 @@ ghost use mathlib.Core.List.{[], _∷_};
 ghost use Prim.Native.Nat.{_+_, _-_, _*_, _<_, _≤_};
 ghost use lib.Count.{ones};
 ghost use lib.ListN.{length};
-ghost use Rattle.slots.specs.Words.{Tied};
+ghost use Rattle.slots.specs.Words.{Maps};
 ghost use Rattle.rack.specs.Places.{isEmpty, freeAt, roomOf};
 ghost use Rattle.rack.specs.Sound.{soundOf};
 ghost use Rattle.rack.specs.Run.{freed, ranOf, runFrom, runOf};
-ghost use Rattle.runs.specs.laws.Steps.{eventAt};
+ghost use Rattle.runs.specs.laws.Steps.{nthEvent};
 ghost use Rattle.runs.specs.laws.Sending.{slotAfter, messageTo};
 ghost use Rattle.runs.specs.laws.Loop.{Most};
 use events::checked;
@@ -18,11 +18,11 @@ use events::decode;
 use events::in_rack;
 use events::place_in;
 use events::slot_of;
+use method::Decision;
 use method::Event;
-use method::Held;
+use method::InSlot;
 use method::Message;
 use method::Note;
-use method::Outcome;
 use method::Sight;
 use plan::plan;
 use rack::Line;
@@ -36,7 +36,7 @@ use record::Replica;
 // Event i of the words.
 fn event_at(events: &[u32], i: usize) -> Event
     requires { do ⌜ 4 * i + 4 ≤ (← ⟦events.len()⟧) ⌝ }
-    ensures { λ r. ⌜ r ≡ eventAt (now (events .entry)) i ⌝ }
+    ensures { λ r. ⌜ r ≡ nthEvent (now (events .entry)) i ⌝ }
 {
     decode(
         events[4 * i],
@@ -79,7 +79,7 @@ fn slot_after(clear: bool, slot: Slot) -> Slot
     ensures { λ r. ⌜ r ≡ slotAfter clear slot ⌝ }
 {
     if clear {
-        let nothing = Held::Empty;
+        let nothing = InSlot::Empty;
         return Slot { held: nothing };
     }
     slot
@@ -105,17 +105,17 @@ struct Start {
     room: usize,
 }
 
-fn is_empty(held: Held) -> bool
+fn is_empty(held: InSlot) -> bool
     ensures { λ r. ⌜ r ≡ isEmpty held ⌝ }
 {
     match held {
-        Held::Empty => true,
-        Held::Full(_) => false,
+        InSlot::Empty => true,
+        InSlot::Full(_) => false,
     }
 }
 
 fn start_of(rack: Rack) -> Start
-    ensures { λ s. ⌜ (Tied (freeAt (rack .wire)) (s .free)) × (s .room ≡ roomOf (rack .wire)) ⌝ }
+    ensures { λ s. ⌜ (Maps (freeAt (rack .wire)) (s .free)) × (s .room ≡ roomOf (rack .wire)) ⌝ }
 {
     let mut free = [0u64; 4];
     let mut i: usize = 0;
@@ -153,7 +153,7 @@ fn ran(done: usize, refusal: u8, rack: Rack) -> Ran
 // The loop. Client, pair, power and slot are stored as planned, then the messages go to the lowest free slots in order; the entry stands last. It is one
 // function because an array of structs can't be lent: what stores into the rack stands where the rack is a local.
 fn go_on(mut r: Rack, start: Start, allowance: usize, events: &[u32]) -> Ran
-    requires { ⌜ (soundOf r ≡ true) × ((Tied (freeAt (r .wire)) (start .free)) × (start .room ≡ roomOf (r .wire))) ⌝ }
+    requires { ⌜ (soundOf r ≡ true) × ((Maps (freeAt (r .wire)) (start .free)) × (start .room ≡ roomOf (r .wire))) ⌝ }
     ensures { λ q. ⌜ q ≡ runFrom 0 r allowance (now (events .entry)) ⌝ }
 {
     let mut free = start.free;
@@ -185,10 +185,10 @@ fn go_on(mut r: Rack, start: Start, allowance: usize, events: &[u32]) -> Ran
         let parties = r.parties;
         let outcome = checked(planned, r.count, parties, sizes.clients, room);
         match outcome {
-            Outcome::No(refusal) => {
+            Decision::No(refusal) => {
                 return ran(i, refusal, r);
             }
-            Outcome::Go(p) => {
+            Decision::Go(p) => {
                 let party2 = p.party;
                 room = room_after(room, p.clear, p.to);
                 r.parties[c] = party2;
@@ -205,7 +205,7 @@ fn go_on(mut r: Rack, start: Start, allowance: usize, events: &[u32]) -> Ran
                     let to = message_to(message, quorum::lowest(left));
                     left = quorum::rest(left);
                     let f = slots::take(&mut free);
-                    let full = Held::Full(to);
+                    let full = InSlot::Full(to);
                     r.wire[f] = Slot { held: full };
                 }
                 i += 1;

@@ -7,8 +7,6 @@ use lib.ListN.{length}
 use lib.Seq.{sets}
 use lib.Dec.{ltb, eqb}
 use Rattle.number.specs.Number.{numberAt, andThen}
-use Rattle.number.specs.declared.Number.{Number}
-use Rattle.number.specs.declared.Number.the-variants.{Is, Refused as NoNumber}
 use Rattle.script.specs.declared.Words.{Words}
 use Rattle.script.specs.declared.Words.the-variants.{Are, Refused}
 use Rattle.script.specs.declared.Filled.{Filled}

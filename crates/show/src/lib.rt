@@ -15,7 +15,7 @@ ghost use Rattle.lines.specs.Lines.{eachBelow, pairText, kindText, bodyPair, na
 ghost use Rattle.lines.specs.Lines.{workText, stoppedText, clientLine, powerText, replicaLine, sizesLine, recordLine, rackText, refusalText, ranText, faultLine};
 use method::Body;
 use method::Goal;
-use method::Held;
+use method::InSlot;
 use method::Message;
 use method::Party;
 use method::Work;
@@ -104,12 +104,12 @@ fn put_message(out: &mut [u8], at: usize, m: Message) -> usize
 }
 
 // Only a full slot has a line.
-fn put_slot(out: &mut [u8], at: usize, i: usize, held: Held) -> usize
+fn put_slot(out: &mut [u8], at: usize, i: usize, held: InSlot) -> usize
     ensures { λ r. ⌜ Printed (now (out .entry)) at (slotLine i held) r (now (out .exit)) ⌝ }
 {
     match held {
-        Held::Empty => at,
-        Held::Full(m) => {
+        InSlot::Empty => at,
+        InSlot::Full(m) => {
             let a = put_field(out, at, b"slot ", i);
             let b = put_message(out, a, m);
             put_words(out, b, b"\n")

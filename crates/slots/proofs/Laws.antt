@@ -9,49 +9,49 @@ use lib.ListN.{getD, set}
 use lib.Bits.{bitOr}
 use lib.Count.{ones, trailingZeros}
 use lib.Pow.{shl-exact}
-use Rattle.slots.specs.Free.{wordCount, slotCount, firstFree, countFrom, givenAt, markedAt}
-use Rattle.slots.specs.Words.{Tied, Took}
+use Rattle.slots.specs.Free.{mapWords, slotCount, firstFree, countFrom, givenAt, markedAt}
+use Rattle.slots.specs.Words.{Maps, Took}
 use Rattle.slots.specs.laws.Finding.{Passed, Here, here-of, pass-all, tied-taken, tied-given, taken-past, count-word}
 
 pub one-shl : (k : ℕ) → k < 64 → 1 * 2 ^ k % 18446744073709551616 ≡ 2 ^ k
 one-shl k h = shl-exact {a = 1} 1 k 64 (omega arith) (omega arith) ∙ one-mul _
 
 -- bit k of word j is the lowest of the first word that is not 0
-module _ (f : ℕ → Bool) (ws : List ℕ) (j k : ℕ) (t : Tied f ws) (p : Passed wordCount f j) (h : j < wordCount) (n : 0 < getD ws j 0)
+module _ (f : ℕ → Bool) (ws : List ℕ) (j k : ℕ) (t : Maps f ws) (p : Passed mapWords f j) (h : j < mapWords) (n : 0 < getD ws j 0)
     (e : k ≡ trailingZeros 64 (getD ws j 0)) where
-  here : Here wordCount f j k
-  here = rw e (here-of wordCount f ws j t p h (λ z. omega arith))
+  here : Here mapWords f j k
+  here = rw e (here-of mapWords f ws j t p h (λ z. omega arith))
 
   pub found-here : 64 * j + k ≡ firstFree f
   found-here = here .first
 
   pub took-here : (y : ℕ) → y ≡ getD ws j 0 - 2 ^ trailingZeros 64 (getD ws j 0) → Took f (set ws j y) (64 * j + k)
-  took-here y q = record { slot = here .first; left = rw (q, ← e) (tied-taken wordCount f ws j k t h (here .small) (here .free)) }
+  took-here y q = record { slot = here .first; left = rw (q, ← e) (tied-taken mapWords f ws j k t h (here .small) (here .free)) }
 
 -- every word is 0
-pub found-none : (f : ℕ → Bool) (j : ℕ) → Passed wordCount f j → wordCount ≤ j → slotCount ≡ firstFree f
-found-none f j p h = sym (pass-all wordCount f j p h)
+pub found-none : (f : ℕ → Bool) (j : ℕ) → Passed mapWords f j → mapWords ≤ j → slotCount ≡ firstFree f
+found-none f j p h = sym (pass-all mapWords f j p h)
 
-pub took-nothing : (f : ℕ → Bool) (ws : List ℕ) (j : ℕ) → Tied f ws → Passed wordCount f j → wordCount ≤ j → Took f ws slotCount
-took-nothing f ws j t p h = record { slot = found-none f j p h; left = taken-past wordCount f ws slotCount (omega arith) t }
+pub took-nothing : (f : ℕ → Bool) (ws : List ℕ) (j : ℕ) → Maps f ws → Passed mapWords f j → mapWords ≤ j → Took f ws slotCount
+took-nothing f ws j t p h = record { slot = found-none f j p h; left = taken-past mapWords f ws slotCount (omega arith) t }
 
-pub gave : (f : ℕ → Bool) (ws : List ℕ) (i : ℕ) → i < slotCount → Tied f ws
-    → Tied (givenAt f i) (set ws (i / 64) (bitOr (getD ws (i / 64) 0) (1 * 2 ^ (i % 64) % 18446744073709551616)))
+pub gave : (f : ℕ → Bool) (ws : List ℕ) (i : ℕ) → i < slotCount → Maps f ws
+    → Maps (givenAt f i) (set ws (i / 64) (bitOr (getD ws (i / 64) 0) (1 * 2 ^ (i % 64) % 18446744073709551616)))
 gave f ws i h t =
     let q : 64 * (i / 64) + i % 64 ≡ i = omega arith in
-    let g = tied-given wordCount f ws (i / 64) (i % 64) t (omega arith) (omega arith) in
+    let g = tied-given mapWords f ws (i / 64) (i % 64) t (omega arith) (omega arith) in
     rw (one-shl (i % 64) (omega arith)) (rw q at g)
 
-pub counted : (f : ℕ → Bool) (ws : List ℕ) (j n m : ℕ) → Tied f ws → j < wordCount → n ≡ countFrom (64 * j) 0 f → m ≡ ones (getD ws j 0)
+pub counted : (f : ℕ → Bool) (ws : List ℕ) (j n m : ℕ) → Maps f ws → j < mapWords → n ≡ countFrom (64 * j) 0 f → m ≡ ones (getD ws j 0)
     → n + m ≡ countFrom (64 * (j + 1)) 0 f
-counted f ws j n m t h e q = omega (arith, count-word wordCount f ws j t h)
+counted f ws j n m t h e q = omega (arith, count-word mapWords f ws j t h)
 
 -- a slot marked
-pub marked-yes : (f : ℕ → Bool) (ws : List ℕ) (i : ℕ) (clear : Bool) → clear ≡ true → Tied (givenAt f i) ws → Tied (markedAt clear f i) ws
+pub marked-yes : (f : ℕ → Bool) (ws : List ℕ) (i : ℕ) (clear : Bool) → clear ≡ true → Maps (givenAt f i) ws → Maps (markedAt clear f i) ws
 marked-yes f ws i true e t = t
 marked-yes f ws i false e t = absurd (let z : _≡_ {A = ℕ} 0 1 = cc in omega arith)
 
-pub marked-no : (f : ℕ → Bool) (ws : List ℕ) (i : ℕ) (clear : Bool) → clear ≡ false → Tied f ws → Tied (markedAt clear f i) ws
+pub marked-no : (f : ℕ → Bool) (ws : List ℕ) (i : ℕ) (clear : Bool) → clear ≡ false → Maps f ws → Maps (markedAt clear f i) ws
 marked-no f ws i true e t = absurd (let z : _≡_ {A = ℕ} 0 1 = cc in omega arith)
 marked-no f ws i false e t = t
 

@@ -5,12 +5,12 @@ use mathlib.Core.Bool.{Bool, true, false, cond}
 use lib.Dec.{eqb}
 
 -- how many words of 64 bits say which slots are free
-abbrev pub wordCount : ℕ
-wordCount = 4
+abbrev pub mapWords : ℕ
+mapWords = 4
 
 -- how many slots the wire has: 256
 abbrev pub slotCount : ℕ
-slotCount = 64 * wordCount
+slotCount = 64 * mapWords
 
 -- 1 for a slot that is free
 abbrev pub digit : Bool → ℕ

@@ -1,20 +1,15 @@
--- What is right of all slots that the words are tied to, and when two outcomes of a call are one.
+-- Words as the code has them, and when two outcomes of a call are one.
 use Prim.Native.Nat.{ℕ, _<_, _^_}
-use mathlib.Core.Bool.{Bool}
 use mathlib.Core.List.{List, [], _∷_}
 use mathlib.Core.Path.{_≡_}
 use lib.ListN.{length, getD}
-use Rattle.slots.specs.Free.{wordCount, givenAt}
-use Rattle.slots.specs.Words.{Tied, freeIn}
+use Rattle.slots.specs.Free.{mapWords, givenAt}
+use Rattle.slots.specs.Words.{Maps, freeIn}
 
 -- four words of 64 bits, as the code has them
 pub record Sized (ws : List ℕ) : Type 0 where
-  pub size : length ws ≡ wordCount
-  pub each : (j : ℕ) → j < wordCount → getD ws j 0 < 2 ^ 64
-
--- an answer that is right of all slots that the words are tied to
-abbrev pub Answers : ((ℕ → Bool) → ℕ) → List ℕ → ℕ → Type 0
-Answers is ws r = (f : ℕ → Bool) → Tied f ws → r ≡ is f
+  pub size : length ws ≡ mapWords
+  pub each : (j : ℕ) → j < mapWords → getD ws j 0 < 2 ^ 64
 
 -- two outcomes that answer the same slot and leave the same words
 pub record SameTake (r r′ : ℕ) (ws ws′ : List ℕ) : Type 0 where
@@ -23,4 +18,4 @@ pub record SameTake (r r′ : ℕ) (ws ws′ : List ℕ) : Type 0 where
 
 -- slot 5 comes to 1 and 2: the words change, and it isn't alone
 abbrev pub Given : List ℕ → Type 0
-Given ws = Tied (givenAt (freeIn (6 ∷ 0 ∷ 0 ∷ 0 ∷ [])) 5) ws
+Given ws = Maps (givenAt (freeIn (6 ∷ 0 ∷ 0 ∷ 0 ∷ [])) 5) ws

@@ -5,7 +5,7 @@ use lib.Dec.{eqb}
 use mathlib.Core.List.{List}
 use lib.ListN.{getD, length}
 use mathlib.Core.Path.{_≡_}
-use Rattle.slots.specs.Free.{wordCount, digit, firstFree, takenAt}
+use Rattle.slots.specs.Free.{mapWords, digit, firstFree, takenAt}
 
 -- bit k of a number
 unfoldable pub bitAt : ℕ → ℕ → Bool
@@ -21,15 +21,15 @@ bitsFrom zero b f = 0
 bitsFrom (suc n) b f = digit (f b) + 2 * bitsFrom n (b + 1) f
 
 -- w words, the j-th of which says which of the 64 slots from 64 j on are free
-pub record TiedIn (w : ℕ) (f : ℕ → Bool) (ws : List ℕ) : Type 0 where
+pub record MapsIn (w : ℕ) (f : ℕ → Bool) (ws : List ℕ) : Type 0 where
   pub size : length ws ≡ w
   pub words : (j : ℕ) → j < w → getD ws j 0 ≡ bitsFrom 64 (64 * j) f
 
 -- the wire's words
-abbrev pub Tied : (ℕ → Bool) → List ℕ → Type 0
-Tied f ws = TiedIn wordCount f ws
+abbrev pub Maps : (ℕ → Bool) → List ℕ → Type 0
+Maps f ws = MapsIn mapWords f ws
 
 -- what taking a slot has to do: answer the lowest free one, and it is taken after; where none is free nothing changes
 pub record Took (f : ℕ → Bool) (after : List ℕ) (r : ℕ) : Type 0 where
   pub slot : r ≡ firstFree f
-  pub left : Tied (takenAt f r) after
+  pub left : Maps (takenAt f r) after

@@ -4,7 +4,7 @@ ghost use mathlib.Core.Bool.{Bool};
 ghost use Prim.Native.Nat.{ℕ, _-_, _^_, _<_, _≤_};
 ghost use lib.Count.{ones, trailingZeros};
 ghost use Rattle.slots.specs.Free.{slotCount, firstFree, countFree, givenAt, markedAt};
-ghost use Rattle.slots.specs.Words.{Tied, Took};
+ghost use Rattle.slots.specs.Words.{Maps, Took};
 
 // How many words there are, and how many slots: 64 for each word.
 pub const WORDS: usize = 4;
@@ -37,7 +37,7 @@ fn bits(x: u64) -> usize
 
 // The lowest free slot; 256 where none is free.
 pub fn lowest(free: &[u64; WORDS]) -> usize
-    ensures { λ r. ⌜ (r ≤ slotCount) × ((f : ℕ → Bool) → Tied f (now (free .entry)) → r ≡ firstFree f) ⌝ }
+    ensures { λ r. ⌜ (r ≤ slotCount) × ((f : ℕ → Bool) → Maps f (now (free .entry)) → r ≡ firstFree f) ⌝ }
 {
     let mut j: usize = 0;
     while j < WORDS {
@@ -52,7 +52,7 @@ pub fn lowest(free: &[u64; WORDS]) -> usize
 
 // The lowest free slot, which is then taken; 256 where none is free, and nothing changes.
 pub fn take(free: &mut [u64; WORDS]) -> usize
-    ensures { λ r. ⌜ (r ≤ slotCount) × ((f : ℕ → Bool) → Tied f (now (free .entry)) → Took f (now (free .exit)) r) ⌝ }
+    ensures { λ r. ⌜ (r ≤ slotCount) × ((f : ℕ → Bool) → Maps f (now (free .entry)) → Took f (now (free .exit)) r) ⌝ }
 {
     let mut j: usize = 0;
     while j < WORDS {
@@ -68,7 +68,7 @@ pub fn take(free: &mut [u64; WORDS]) -> usize
 
 // The slot is free again; one past the end changes nothing.
 pub fn give(free: &mut [u64; WORDS], slot: usize)
-    ensures { λ _. ⌜ ((f : ℕ → Bool) → Tied f (now (free .entry)) → Tied (givenAt f slot) (now (free .exit))) ⌝ }
+    ensures { λ _. ⌜ ((f : ℕ → Bool) → Maps f (now (free .entry)) → Maps (givenAt f slot) (now (free .exit))) ⌝ }
 {
     if SLOTS <= slot {
         return;
@@ -80,7 +80,7 @@ pub fn give(free: &mut [u64; WORDS], slot: usize)
 
 // The slot is free again where it is clear.
 pub fn mark(free: &mut [u64; WORDS], slot: usize, clear: bool)
-    ensures { λ _. ⌜ ((f : ℕ → Bool) → Tied f (now (free .entry)) → Tied (markedAt clear f slot) (now (free .exit))) ⌝ }
+    ensures { λ _. ⌜ ((f : ℕ → Bool) → Maps f (now (free .entry)) → Maps (markedAt clear f slot) (now (free .exit))) ⌝ }
 {
     if clear {
         give(free, slot);
@@ -89,7 +89,7 @@ pub fn mark(free: &mut [u64; WORDS], slot: usize, clear: bool)
 
 // How many slots are free.
 pub fn count(free: &[u64; WORDS]) -> usize
-    ensures { λ r. ⌜ (r ≤ slotCount) × ((f : ℕ → Bool) → Tied f (now (free .entry)) → r ≡ countFree f) ⌝ }
+    ensures { λ r. ⌜ (r ≤ slotCount) × ((f : ℕ → Bool) → Maps f (now (free .entry)) → r ≡ countFree f) ⌝ }
 {
     let mut total: usize = 0;
     let mut i: usize = 0;

@@ -6,7 +6,7 @@ ghost use Rattle.rack.specs.Places.{pairAt};
 ghost use Rattle.rack.specs.Sound.{allBelow, sizesFit, pairFits, bodyFits, messageFits, heldFits, toldFits, askFits, keepFits, workFits, wireFits, pairsFit, partiesFit};
 ghost use Rattle.rack.specs.Sound.{recordFits, soundOf};
 use method::Body;
-use method::Held;
+use method::InSlot;
 use method::Message;
 use method::Work;
 use rack::Rack;
@@ -65,12 +65,12 @@ fn message_fits(sizes: Sizes, m: Message) -> bool
     body_fits(sizes, body)
 }
 
-fn held_fits(sizes: Sizes, held: Held) -> bool
+fn held_fits(sizes: Sizes, held: InSlot) -> bool
     ensures { λ r. ⌜ r ≡ heldFits sizes held ⌝ }
 {
     match held {
-        Held::Empty => true,
-        Held::Full(m) => message_fits(sizes, m),
+        InSlot::Empty => true,
+        InSlot::Full(m) => message_fits(sizes, m),
     }
 }
 

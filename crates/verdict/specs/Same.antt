@@ -1,15 +1,7 @@
 -- When two outcomes of a call are one.
 use mathlib.Core.Path.{_≡_}
-use mathlib.Core.List.{List}
-use Rattle.record.specs.declared.Entry.{Entry}
-use Rattle.record.specs.Record.{Held, entries}
-use Rattle.record.specs.Legal.{Legal}
 use Rattle.verdict.specs.declared.Verdict.{Verdict}
 use Rattle.verdict.specs.Answers.{caseOf, refusalIn, entryIn, cellIn}
-
--- the entries that are held have no fault
-abbrev pub LegalHeld : Held → Type 0
-LegalHeld h = (es : List Entry) → h ≡ entries es → Legal es
 
 -- two verdicts that say the same, with the same refusal, entry and cell
 pub record SameVerdict (v v′ : Verdict) : Type 0 where

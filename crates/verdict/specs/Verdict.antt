@@ -8,7 +8,7 @@ use lib.IntN.{ℤ}
 use Rattle.number.specs.Value.{alternatingOf}
 use Rattle.record.specs.declared.Entry.{Entry}
 use Rattle.record.specs.declared.Entry.the-variants.{ReadAsked, WriteAsked, Told, Done}
-use Rattle.record.specs.Record.{Held, entries, fault, recordOf}
+use Rattle.record.specs.Record.{Held, entries, fault, bytesHeld}
 use Rattle.law.specs.Operation.{operations}
 use Rattle.law.specs.Order.{Lawful}
 use Rattle.law.specs.Part.{partOf}
@@ -46,15 +46,15 @@ distinct (fault k n) = fault k n
 
 -- what the judge takes the bytes s for: entries, or a refusal with its entry's number
 unfoldable pub takenFor : List ℕ → Held
-takenFor s = distinct (recordOf s)
+takenFor s = distinct (bytesHeld s)
 
 -- c is the lowest cell whose part has no lawful order
-pub record Lowest (es : List Entry) (c : ℕ) : Type 0 where
+pub record LowestCell (es : List Entry) (c : ℕ) : Type 0 where
   pub unlawful : ¬ Lawful (operations (partOf c es))
   pub below : (d : ℕ) → d < c → Lawful (operations (partOf d es))
 
 -- the verdict on what is held
 abbrev pub Judges : Held → Verdict → Type 0
 Judges h saysLawful = (es : List Entry) × ((h ≡ entries es) × Lawful (operations es))
-Judges h (saysUnlawful c) = (es : List Entry) × ((h ≡ entries es) × Lowest es (c .0))
+Judges h (saysUnlawful c) = (es : List Entry) × ((h ≡ entries es) × LowestCell es (c .0))
 Judges h (saysRefused k n) = h ≡ fault k n

@@ -12,7 +12,7 @@ use Rattle.rack.specs.declared.Ran.{Ran}
 use Rattle.rack.specs.Sound.{soundOf}
 use Rattle.rack.specs.Run.{madeOf, ranOf, runOf}
 use Rattle.runs.specs.laws.Parts.{run-stays}
-use Rattle.layout.specs.declared.Answer.{Answer}
+use Rattle.layout.specs.declared.WordsAnswer.{WordsAnswer}
 use Rattle.layout.specs.Layout.{wordCount}
 use Rattle.layout.specs.Reading.{rackOf}
 use Rattle.layout.specs.Writing.{writtenOf}
@@ -20,12 +20,12 @@ use Rattle.layout.specs.Calls.{answerOf, makes, madeOutcome, leaves, runOutcome
 
 -- ---- the maker
 
-pub made-unfit : (x y z : ℕ) (ws : List ℕ) (a : Answer) → (length ws ≡ wordCount → ⊥) → a ≡ answerOf 0 20
+pub made-unfit : (x y z : ℕ) (ws : List ℕ) (a : WordsAnswer) → (length ws ≡ wordCount → ⊥) → a ≡ answerOf 0 20
     → (a ≡ madeOutcome x y z ws .answer) × (ws ≡ madeOutcome x y z ws .lent)
 unfolding madeOutcome
 made-unfit x y z ws a h p = let e = ne-eqb (length ws) wordCount h in (rw e p, rw e)
 
-pub made-fit : (x y z : ℕ) (ws : List ℕ) (m : Made) (blank after : List ℕ) (a : Answer) → length ws ≡ wordCount → m ≡ madeOf x y z → blank ≡ replicate (length ws) 0
+pub made-fit : (x y z : ℕ) (ws : List ℕ) (m : Made) (blank after : List ℕ) (a : WordsAnswer) → length ws ≡ wordCount → m ≡ madeOf x y z → blank ≡ replicate (length ws) 0
     → after ≡ writtenOf (m .rack) blank → a ≡ answerOf 0 (m .refusal) → (a ≡ madeOutcome x y z ws .answer) × (after ≡ madeOutcome x y z ws .lent)
 unfolding madeOutcome makes
 made-fit x y z ws m blank after a h em eb ew ea =
@@ -35,7 +35,7 @@ made-fit x y z ws m blank after a h em eb ew ea =
 
 -- ---- a schedule
 
-pub run-unfit : (ws : List ℕ) (n : ℕ) (es : List ℕ) (a : Answer) → (length ws ≡ wordCount → ⊥) → a ≡ answerOf 0 20
+pub run-unfit : (ws : List ℕ) (n : ℕ) (es : List ℕ) (a : WordsAnswer) → (length ws ≡ wordCount → ⊥) → a ≡ answerOf 0 20
     → (a ≡ runOutcome ws n es .answer) × (ws ≡ runOutcome ws n es .lent)
 unfolding runOutcome
 run-unfit ws n es a h p = let e = ne-eqb (length ws) wordCount h in (rw e p, rw e)
@@ -44,7 +44,7 @@ run-unfit ws n es a h p = let e = ne-eqb (length ws) wordCount h in (rw e p, rw 
 ran : (ws : List ℕ) (n : ℕ) (es : List ℕ) (r : Rack) (q : Ran) → r ≡ rackOf ws → q ≡ runOf r n es → q ≡ runOf (rackOf ws) n es
 ran ws n es r q er eq = eq ∙ ap (λ (s : Rack). runOf s n es) er
 
-pub run-none : (ws : List ℕ) (n : ℕ) (es : List ℕ) (r : Rack) (q : Ran) (a : Answer) → length ws ≡ wordCount → r ≡ rackOf ws → q ≡ runOf r n es → q .done ≡ 0
+pub run-none : (ws : List ℕ) (n : ℕ) (es : List ℕ) (r : Rack) (q : Ran) (a : WordsAnswer) → length ws ≡ wordCount → r ≡ rackOf ws → q ≡ runOf r n es → q .done ≡ 0
     → a ≡ answerOf 0 (q .refusal) → (a ≡ runOutcome ws n es .answer) × (ws ≡ runOutcome ws n es .lent)
 unfolding runOutcome leaves
 run-none ws n es r q a h er eq ed ea =
@@ -53,7 +53,7 @@ run-none ws n es r q a h er eq ed ea =
     let d = eq-eqb (q .done) 0 ed in
     (rw (e, ← p) (ea ∙ ap (λ (k : ℕ). answerOf k (q .refusal)) (sym ed)), rw (e, ← p, d))
 
-pub run-some : (ws : List ℕ) (n : ℕ) (es : List ℕ) (r : Rack) (q : Ran) (after : List ℕ) (a : Answer) → length ws ≡ wordCount → r ≡ rackOf ws → q ≡ runOf r n es
+pub run-some : (ws : List ℕ) (n : ℕ) (es : List ℕ) (r : Rack) (q : Ran) (after : List ℕ) (a : WordsAnswer) → length ws ≡ wordCount → r ≡ rackOf ws → q ≡ runOf r n es
     → (q .done ≡ 0 → ⊥) → after ≡ writtenOf (q .rack) ws → a ≡ answerOf (q .done) (q .refusal) → (a ≡ runOutcome ws n es .answer) × (after ≡ runOutcome ws n es .lent)
 unfolding runOutcome leaves
 run-some ws n es r q after a h er eq ed ew ea =

@@ -12,7 +12,7 @@ use Rattle.rack.specs.Sound.{allBelow}
 use Rattle.method.specs.laws.Tests.{and-left, and-right}
 use Rattle.layout.specs.Layout.{entryPlace, word, firsts}
 use Rattle.layout.specs.laws.Firsts.{firsts-long}
-use Rattle.layout.specs.Reading.{partyKnown, messageKnown, lineKnown, countOf, countIn}
+use Rattle.layout.specs.Reading.{partyKnown, messageKnown, lineKnown, entryCount, countIn}
 
 -- the first i places of the list l are read, and the others are those of xs
 pub record Filling {A : Type 0} (f : ℕ → A) (n : ℕ) (xs l : List A) (i : ℕ) : Type 0 where
@@ -84,14 +84,14 @@ pub count-more : (ws : List ℕ) → 2048 < word ws 4 → 2049 ≡ countIn ws
 unfolding countIn
 count-more ws h = rw (lt-ltb 2048 (word ws 4) h)
 
-pub count-unknown : (ws : List ℕ) (n : ℕ) (t : Bool) → word ws 4 ≤ 2048 → n ≡ countOf ws → t ≡ allBelow n (λ i. lineKnown ws (entryPlace i)) → t ≡ false → 2049 ≡ countIn ws
+pub count-unknown : (ws : List ℕ) (n : ℕ) (t : Bool) → word ws 4 ≤ 2048 → n ≡ entryCount ws → t ≡ allBelow n (λ i. lineKnown ws (entryPlace i)) → t ≡ false → 2049 ≡ countIn ws
 unfolding countIn
 count-unknown ws n t h e p q =
-    let a : allBelow (countOf ws) (λ i. lineKnown ws (entryPlace i)) ≡ false = ap (λ (k : ℕ). allBelow k (λ i. lineKnown ws (entryPlace i))) (sym e) ∙ sym p ∙ q in
+    let a : allBelow (entryCount ws) (λ i. lineKnown ws (entryPlace i)) ≡ false = ap (λ (k : ℕ). allBelow k (λ i. lineKnown ws (entryPlace i))) (sym e) ∙ sym p ∙ q in
     rw (le-ltb 2048 (word ws 4) h, a)
 
-pub count-known : (ws : List ℕ) (n : ℕ) (t : Bool) → word ws 4 ≤ 2048 → n ≡ countOf ws → t ≡ allBelow n (λ i. lineKnown ws (entryPlace i)) → t ≡ true → word ws 4 ≡ countIn ws
+pub count-known : (ws : List ℕ) (n : ℕ) (t : Bool) → word ws 4 ≤ 2048 → n ≡ entryCount ws → t ≡ allBelow n (λ i. lineKnown ws (entryPlace i)) → t ≡ true → word ws 4 ≡ countIn ws
 unfolding countIn
 count-known ws n t h e p q =
-    let a : allBelow (countOf ws) (λ i. lineKnown ws (entryPlace i)) ≡ true = ap (λ (k : ℕ). allBelow k (λ i. lineKnown ws (entryPlace i))) (sym e) ∙ sym p ∙ q in
+    let a : allBelow (entryCount ws) (λ i. lineKnown ws (entryPlace i)) ≡ true = ap (λ (k : ℕ). allBelow k (λ i. lineKnown ws (entryPlace i))) (sym e) ∙ sym p ∙ q in
     rw (le-ltb 2048 (word ws 4) h, a)

@@ -8,7 +8,7 @@ use lib.Seq.{sets, length-sets, take-suc, take-all, length-take-le}
 use Rattle.record.specs.declared.Cell.{Cell}
 use Rattle.stamps.specs.declared.Pair.{Pair}
 use Rattle.method.specs.declared.Goal.{Goal}
-use Rattle.method.specs.declared.Held.the-variants.{Full}
+use Rattle.method.specs.declared.InSlot.the-variants.{Full}
 use Rattle.method.specs.declared.Message.{Message}
 use Rattle.method.specs.declared.Party.{Party}
 use Rattle.rack.specs.declared.Rack.{Rack}

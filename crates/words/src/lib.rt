@@ -11,14 +11,14 @@ ghost use Rattle.rack.specs.Places.{idle, heldIn};
 ghost use Rattle.rack.specs.Sound.{allBelow, soundOf};
 ghost use Rattle.layout.specs.Layout.{wordCount, partyPlace, pairPlace, slotPlace, entryPlace, word, firsts};
 ghost use Rattle.layout.specs.Reading.{byteOf, setOf, pairIn, goalOf, workOf, workIn, partyKnown, strayParty, partyIn, bodyOf, messageKnown, strayHeld, fullIn, heldOf, slotIn};
-ghost use Rattle.layout.specs.Reading.{entryKnown, lineKnown, lineIn, linesIn, countOf, countIn, powerOf, sizesIn, rackOf};
+ghost use Rattle.layout.specs.Reading.{entryKnown, lineKnown, lineIn, linesIn, entryCount, countIn, powerOf, sizesIn, rackOf};
 ghost use Rattle.layout.specs.Writing.{pairWords, noPair, openWords, toldWords, workWords, flag, partyWords, bodyKind, bodyWords, slotWords, putFirsts, headOf, partiesPut};
 ghost use Rattle.layout.specs.Writing.{pairWritten, pairsPut, entryIn, writtenOf};
 ghost use Rattle.layout.specs.Calls.{madeOutcome, runOutcome};
-use layout::Answer;
+use layout::WordsAnswer;
 use method::Body;
 use method::Goal;
-use method::Held;
+use method::InSlot;
 use method::Message;
 use method::Party;
 use method::Work;
@@ -206,10 +206,10 @@ fn message_known(mark: u32, body: u32, op: u32) -> bool
 }
 
 // A message that no rack has: words that are none are read as it.
-fn stray_held() -> Held
+fn stray_held() -> InSlot
     ensures { λ r. ⌜ r ≡ strayHeld ⌝ }
 {
-    Held::Full(Message {
+    InSlot::Full(Message {
         client: Client(255),
         replica: Replica(0),
         cell: Cell(0),
@@ -218,7 +218,7 @@ fn stray_held() -> Held
     })
 }
 
-fn full_at(words: &[u32], at: usize) -> Held
+fn full_at(words: &[u32], at: usize) -> InSlot
     requires { ⌜ (at + 9 ≤ length (now words)) × (getD (now words) (at + 5) 0 < 65536) ⌝ }
     ensures { λ r. ⌜ r ≡ fullIn (now (words .entry)) at ⌝ }
 {
@@ -227,7 +227,7 @@ fn full_at(words: &[u32], at: usize) -> Held
     let cell = byte_at(words, at + 4);
     let pair = pair_at(words, at + 6);
     let body = body_of(words[at + 1], pair);
-    Held::Full(Message {
+    InSlot::Full(Message {
         client: Client(client),
         replica: Replica(replica),
         cell: Cell(cell),
@@ -236,12 +236,12 @@ fn full_at(words: &[u32], at: usize) -> Held
     })
 }
 
-fn held_at(words: &[u32], at: usize) -> Held
+fn held_at(words: &[u32], at: usize) -> InSlot
     requires { ⌜ at + 9 ≤ length (now words) ⌝ }
     ensures { λ r. ⌜ r ≡ heldOf (now (words .entry)) at ⌝ }
 {
     if words[at] == 0 {
-        return Held::Empty;
+        return InSlot::Empty;
     }
     if message_known(words[at], words[at + 1], words[at + 5]) {
         return full_at(words, at);
@@ -338,7 +338,7 @@ fn wire_of(words: &[u32]) -> [Slot; 256]
     requires { ⌜ length (now words) ≡ wordCount ⌝ }
     ensures { λ r. ⌜ r ≡ firsts 256 (λ i. slotIn (now (words .entry)) (slotPlace i)) ⌝ }
 {
-    let nothing = Held::Empty;
+    let nothing = InSlot::Empty;
     let empty = Slot { held: nothing };
     let mut wire = [empty; 256];
     let mut i: usize = 0;
@@ -384,7 +384,7 @@ fn lines_known(words: &[u32], n: usize) -> bool
 // How many entries there are to look at.
 fn count_of(words: &[u32]) -> usize
     requires { ⌜ length (now words) ≡ wordCount ⌝ }
-    ensures { λ r. ⌜ (r ≡ countOf (now (words .entry))) × (r ≤ 2048) ⌝ }
+    ensures { λ r. ⌜ (r ≡ entryCount (now (words .entry))) × (r ≤ 2048) ⌝ }
 {
     if words[4] <= 2048 {
         return words[4] as usize;
@@ -394,7 +394,7 @@ fn count_of(words: &[u32]) -> usize
 
 // A count that is no count is one more than a record holds.
 fn count_in(words: &[u32], n: usize) -> usize
-    requires { ⌜ (length (now words) ≡ wordCount) × ((n ≡ countOf (now words)) × (n ≤ 2048)) ⌝ }
+    requires { ⌜ (length (now words) ≡ wordCount) × ((n ≡ entryCount (now words)) × (n ≤ 2048)) ⌝ }
     ensures { λ r. ⌜ r ≡ countIn (now (words .entry)) ⌝ }
 {
     if 2048 < words[4] {
@@ -597,7 +597,7 @@ fn put_body(words: &mut [u32], at: usize, body: Body)
 
 fn put_message(words: &mut [u32], at: usize, m: Message)
     requires { ⌜ at + 9 ≤ length (now words) ⌝ }
-    ensures { λ r. ⌜ now (words .exit) ≡ sets (now (words .entry)) at (slotWords (Held.Full m)) ⌝ }
+    ensures { λ r. ⌜ now (words .exit) ≡ sets (now (words .entry)) at (slotWords (InSlot.Full m)) ⌝ }
 {
     let client = m.client;
     let replica = m.replica;
@@ -615,16 +615,16 @@ fn put_message(words: &mut [u32], at: usize, m: Message)
     put_body(words, at + 6, body)
 }
 
-fn put_slot(words: &mut [u32], at: usize, held: Held)
+fn put_slot(words: &mut [u32], at: usize, held: InSlot)
     requires { ⌜ at + 9 ≤ length (now words) ⌝ }
     ensures { λ r. ⌜ now (words .exit) ≡ sets (now (words .entry)) at (slotWords held) ⌝ }
 {
     match held {
-        Held::Empty => {
+        InSlot::Empty => {
             let nine = [0u32; 9];
             put(words, at, &nine)
         }
-        Held::Full(m) => put_message(words, at, m),
+        InSlot::Full(m) => put_message(words, at, m),
     }
 }
 
@@ -754,17 +754,17 @@ fn clear(words: &mut [u32])
 
 // ---- the calls
 
-fn answered(done: usize, refusal: u8) -> Answer
+fn answered(done: usize, refusal: u8) -> WordsAnswer
     ensures { λ r. ⌜ r ≡ record { done = done; refusal = refusal } ⌝ }
 {
-    Answer {
+    WordsAnswer {
         done: done,
         refusal: refusal,
     }
 }
 
 // Writes the fresh rack of these sizes; where one is out of range, that is refused 1 and the fresh rack is of sizes 1, 1, 1.
-pub fn made(words: &mut [u32], replicas: u32, clients: u32, cells: u32) -> Answer
+pub fn made(words: &mut [u32], replicas: u32, clients: u32, cells: u32) -> WordsAnswer
     ensures { λ r. ⌜ (r ≡ madeOutcome replicas clients cells (now (words .entry)) .answer) × (now (words .exit) ≡ madeOutcome replicas clients cells (now (words .entry)) .lent) ⌝ }
 {
     if words.len() != WORDS {
@@ -778,7 +778,7 @@ pub fn made(words: &mut [u32], replicas: u32, clients: u32, cells: u32) -> Answe
 }
 
 // Runs a schedule on the rack of the words.
-pub fn run(words: &mut [u32], allowance: usize, events: &[u32]) -> Answer
+pub fn run(words: &mut [u32], allowance: usize, events: &[u32]) -> WordsAnswer
     ensures { λ r. ⌜ (r ≡ runOutcome (now (words .entry)) allowance (now (events .entry)) .answer) × (now (words .exit) ≡ runOutcome (now (words .entry)) allowance (now (events .entry)) .lent) ⌝ }
 {
     if words.len() != WORDS {

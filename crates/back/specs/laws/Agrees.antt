@@ -31,8 +31,8 @@ use Rattle.method.specs.declared.Event.the-variants.{Unknown}
 use Rattle.method.specs.declared.Note.{Note}
 use Rattle.method.specs.declared.Note.the-variants.{Nothing, Asked, Ended}
 use Rattle.method.specs.declared.Plan.{Plan}
-use Rattle.method.specs.declared.Outcome.{Outcome}
-use Rattle.method.specs.declared.Outcome.the-variants.{No, Go}
+use Rattle.method.specs.declared.Decision.{Decision}
+use Rattle.method.specs.declared.Decision.the-variants.{No, Go}
 use Rattle.rack.specs.declared.Made.{Made}
 use Rattle.stamps.specs.Stamp.{freshPair}
 use Rattle.method.specs.Plan.{messageOf, planOf}
@@ -46,7 +46,7 @@ use Rattle.slots.specs.Free.{firstFree}
 use Rattle.quorum.specs.Sets.{membersOf}
 use Rattle.runs.specs.laws.Stays.{set-either, stays, sound-stays}
 use Rattle.runs.specs.laws.Steps.{sound-from}
-use Rattle.back.specs.Standing.{openIn, Within, AllWithin, PairSmall, BodySmall, HeldSmall, WorkSmall, Small, Agrees, EventSmall}
+use Rattle.back.specs.Standing.{openIn, Within, AllWithin, PairSmall, BodySmall, HeldSmall, WorkSmall, FitsWords, Agrees, EventSmall}
 use Rattle.back.specs.laws.Lines.{added, applied-adds, count-long}
 use Rattle.back.specs.laws.Plans.{whose, needs, leaves, Enters, Noted, Keeps, OutcomeKeeps, plan-keeps}
 
@@ -142,7 +142,7 @@ unfolding cleared
 cleared-small true j w h i = set-either (λ (x : Slot). HeldSmall (x .held)) w j empty empty i tt (h i)
 cleared-small false j w h i = h i
 
-small-stays : (r : Rack) (e : Event) (p : Plan) (k before : ℕ) → Small r → Keeps (r .sizes) k before p → Small (appliedOf r e p)
+small-stays : (r : Rack) (e : Event) (p : Plan) (k before : ℕ) → FitsWords r → Keeps (r .sizes) k before p → FitsWords (appliedOf r e p)
 unfolding appliedOf
 small-stays r e p k before s h =
     record {
@@ -158,13 +158,13 @@ small-stays r e p k before s h =
 pub decided-plan : (r : Rack) (e : Event) (p : Plan) → soundOf r ≡ true → decided r e ≡ Go p → planOf (sight r e) (lookedHeld r e) e ≡ Go p
 unfolding decided
 decided-plan r e p h g =
-    let o : Outcome = planOf (sight r e) (lookedHeld r e) e in
+    let o : Decision = planOf (sight r e) (lookedHeld r e) e in
     let c : checked o (r .count + owed r) (roomOf (r .wire)) ≡ Go p =
     sym (ap (λ (t : Bool). cond t (checked o (r .count + owed r) (roomOf (r .wire))) (No 3)) (decided-fits r e p h g .inside)) ∙ g in
     checked-go o (r .count + owed r) (roomOf (r .wire)) p (sound-of r h .entries) c .same
 
 -- it keeps to the record
-decided-keeps : (r : Rack) (e : Event) (p : Plan) → soundOf r ≡ true → Small r → EventSmall e → decided r e ≡ Go p
+decided-keeps : (r : Rack) (e : Event) (p : Plan) → soundOf r ≡ true → FitsWords r → EventSmall e → decided r e ≡ Go p
     → Keeps (r .sizes) (lookedClient r e) (openIn (lookedParty r e .work)) p
 decided-keeps r e p h s v g =
     let d : Decided r e p = decided-fits r e p h g in
@@ -246,7 +246,7 @@ from-agrees done r (suc left) (x ∷ y ∷ z ∷ []) h s a = a
 from-agrees done r (suc left) (x ∷ y ∷ z ∷ v ∷ ws) h s a =
     go (decided r (eventOf x y z v)) refl (λ q. from-agrees (done + 1) q left ws (λ i. h (suc (suc (suc (suc i))))))
   where
-    go : (o : Outcome) → decided r (eventOf x y z v) ≡ o → ((q : Rack) → soundOf q ≡ true → Agrees q → Agrees (runFrom (done + 1) q left ws .rack))
+    go : (o : Decision) → decided r (eventOf x y z v) ≡ o → ((q : Rack) → soundOf q ≡ true → Agrees q → Agrees (runFrom (done + 1) q left ws .rack))
         → Agrees (turn done r (eventOf x y z v) o (λ q. runFrom (done + 1) q left ws) .rack)
     go (No n) e ih = a
     go (Go p) e ih = ih (appliedOf r (eventOf x y z v) p) (sound-stays r (eventOf x y z v) p s e) (agree-stays r (eventOf x y z v) p s a (event-small x y z v (h 3)) e)

@@ -22,8 +22,8 @@ use Rattle.stamps.specs.declared.Pair.{Pair}
 use Rattle.method.specs.declared.Body.{Body}
 use Rattle.method.specs.declared.Body.the-variants.{Ask, Tell, Keep, Kept}
 use Rattle.method.specs.declared.Message.{Message}
-use Rattle.method.specs.declared.Held.{Held as Slotted}
-use Rattle.method.specs.declared.Held.the-variants.{Empty, Full}
+use Rattle.method.specs.declared.InSlot.{InSlot as Slotted}
+use Rattle.method.specs.declared.InSlot.the-variants.{Empty, Full}
 use Rattle.method.specs.declared.Goal.{Goal}
 use Rattle.method.specs.declared.Goal.the-variants.{Read, Write}
 use Rattle.method.specs.declared.Work.{Work}
@@ -35,8 +35,8 @@ use Rattle.method.specs.declared.Event.the-variants.{StartRead, StartWrite, Del
 use Rattle.method.specs.declared.Note.{Note}
 use Rattle.method.specs.declared.Note.the-variants.{Nothing, Asked, Ended}
 use Rattle.method.specs.declared.Plan.{Plan}
-use Rattle.method.specs.declared.Outcome.{Outcome}
-use Rattle.method.specs.declared.Outcome.the-variants.{No, Go}
+use Rattle.method.specs.declared.Decision.{Decision}
+use Rattle.method.specs.declared.Decision.the-variants.{No, Go}
 use Rattle.method.specs.Plan.{started, startIn, startOf, askOf, keepOf, current, keepsOf, phaseEnds, holds, tellCounts, tellIn, tellOf, lastEntry, keptCounts, keptIn, keptOf}
 use Rattle.method.specs.Plan.{deliverIn, deliverOf, copyOf, resendIn, resendOf, stopOf, powered, offOf, onOf, ofSlot, planOf}
 use Rattle.rack.specs.Places.{recordOf}
@@ -157,7 +157,7 @@ writesIn (Asked e) = ifWrite e
 writesIn (Ended e) = ifWrite e
 
 -- a plan whose note adds just the writes that are given
-abbrev OutcomeAdds : List Entry → Outcome → Type 0
+abbrev OutcomeAdds : List Entry → Decision → Type 0
 OutcomeAdds ws (No k) = Unit {0}
 OutcomeAdds ws (Go p) = writesIn (p .note) ≡ ws
 
@@ -250,7 +250,7 @@ from-clear done r (suc left) (x ∷ y ∷ z ∷ []) h s a c = c .0
 from-clear done r (suc left) (x ∷ y ∷ z ∷ v ∷ ws) h s a c =
     go (decided r (eventOf x y z v)) refl (λ q. from-clear (done + 1) q left ws (λ i. h (suc (suc (suc (suc i))))))
   where
-    go : (o : Outcome) → decided r (eventOf x y z v) ≡ o
+    go : (o : Decision) → decided r (eventOf x y z v) ≡ o
         → ((q : Rack) → soundOf q ≡ true → Agrees q → Ahead (recordOf q) (writesOf ws) → Clear [] (recordOf (runFrom (done + 1) q left ws .rack)))
         → Clear [] (recordOf (turn done r (eventOf x y z v) o (λ q. runFrom (done + 1) q left ws) .rack))
     go (No n) e ih = c .0

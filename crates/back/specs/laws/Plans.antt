@@ -15,8 +15,8 @@ use Rattle.stamps.specs.declared.Pair.{Pair}
 use Rattle.method.specs.declared.Body.{Body}
 use Rattle.method.specs.declared.Body.the-variants.{Ask, Tell, Keep, Kept}
 use Rattle.method.specs.declared.Message.{Message}
-use Rattle.method.specs.declared.Held.{Held}
-use Rattle.method.specs.declared.Held.the-variants.{Empty, Full}
+use Rattle.method.specs.declared.InSlot.{InSlot}
+use Rattle.method.specs.declared.InSlot.the-variants.{Empty, Full}
 use Rattle.method.specs.declared.Goal.{Goal}
 use Rattle.method.specs.declared.Goal.the-variants.{Read, Write}
 use Rattle.method.specs.declared.Work.{Work}
@@ -30,8 +30,8 @@ use Rattle.method.specs.declared.Event.the-variants.{StartRead, StartWrite, Del
 use Rattle.method.specs.declared.Note.{Note}
 use Rattle.method.specs.declared.Note.the-variants.{Nothing, Asked, Ended}
 use Rattle.method.specs.declared.Plan.{Plan}
-use Rattle.method.specs.declared.Outcome.{Outcome}
-use Rattle.method.specs.declared.Outcome.the-variants.{No, Go}
+use Rattle.method.specs.declared.Decision.{Decision}
+use Rattle.method.specs.declared.Decision.the-variants.{No, Go}
 use Rattle.method.specs.Plan.{usedUp, answered, started, startIn, startOf, askOf, keepOf, current, keepsOf, written, phaseEnds, holds, tellCounts, tellIn, tellOf, lastEntry}
 use Rattle.method.specs.Plan.{keptCounts, keptIn, keptOf, deliverIn, deliverOf, copyOf, resendIn, resendOf, stopOf, powered, offOf, onOf, ofSlot, planOf}
 use Rattle.rack.specs.Sound.{heldFits}
@@ -87,7 +87,7 @@ pub record Keeps (z : Sizes) (k before : ℕ) (p : Plan) : Type 0 where
   pub body : BodySmall (p .message .body)
 
 -- what holds of an outcome: of a refusal nothing, of a plan the above
-abbrev pub OutcomeKeeps : Sizes → ℕ → ℕ → Outcome → Type 0
+abbrev pub OutcomeKeeps : Sizes → ℕ → ℕ → Decision → Type 0
 OutcomeKeeps z k before (No n) = Unit {0}
 OutcomeKeeps z k before (Go p) = Keeps z k before p
 
@@ -218,7 +218,7 @@ module _ (z : Sizes) (power : ℕ) (party : Party) (pair : Pair) (work : WorkSma
 
   -- ---- every event
 
-  pub plan-keeps : (held : Held) → heldFits z held ≡ true → HeldSmall held → (e : Event) → inRack z e ≡ true → EventSmall e
+  pub plan-keeps : (held : InSlot) → heldFits z held ≡ true → HeldSmall held → (e : Event) → inRack z e ≡ true → EventSmall e
       → OutcomeKeeps z (clientOf e held) has (planOf seen held e)
   unfolding planOf ofSlot inRack heldFits offOf onOf deliverOf clientOf clientIn
   plan-keeps held hh hs (StartRead client cell) i v =

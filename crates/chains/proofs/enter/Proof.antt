@@ -1,5 +1,5 @@
 -- `chains::enter` meets its contract: the entry is no write, or asks again, or stands in front of its chain. Assumes nothing.
-use Rattle.chains.proofs.Entering.{is-entered, not-entered, chained-pass, chained-more}
+use Rattle.chains.proofs.Entering.{is-entered, not-entered, chained-pass, pass-only, chained-more, next-only}
 use borrow.Author.Needs.{needs}
 use Rattle.chains.proofs.enter.Statement.{statement}
 use Rattle.chains.proofs.enter.Tie as tie
@@ -8,7 +8,9 @@ element-copy-out-if1 : tie.Need-element-copy-out-if1
 element-copy-out-if1 c = search needs
 
 returns : tie.Need-returns
-returns c = is-entered (chained-pass (c .before .before .pre .1) (c .before .before .pre .0) (c .if1 .taken)) (λ a. c .if1 .taken (a .write))
+returns c =
+    let pre = c .before .before .pre in
+    is-entered (chained-pass (pre .1) (pre .0) (c .if1 .taken)) (λ a. c .if1 .taken (a .write)) (pass-only (pre .1) (pre .0))
 
 asks-again-requires : tie.Need-asks-again-requires
 asks-again-requires c κs = search needs
@@ -53,7 +55,14 @@ element-write-head : tie.Need-element-write-head
 element-write-head c = search needs
 
 returns-3 : tie.Need-returns-3
-returns-3 c = rw (c .narrow .ensures) (is-entered (chained-more (c .before .before .before .before .before .before .before .before .before .before .before .pre .1) (c .before .before .before .before .before .before .before .before .before .before .before .pre .0) (c .before .before .before .before .before .before .before .before .before .if1 .left) (c .before .before .home .ensures .0) (c .before .before .home .ensures .1)) (c .before .before .before .before .before .before .asks-again .ensures .no (c .before .before .before .before .before .if2 .left)))
+returns-3 c =
+    let pre = c .before .before .before .before .before .before .before .before .before .before .before .pre in
+    let write = c .before .before .before .before .before .before .before .before .before .if1 .left in
+    let home = c .before .before .home .ensures in
+    rw (c .narrow .ensures)
+    (is-entered (chained-more (pre .1) (pre .0) write (home .0) (home .1))
+    (c .before .before .before .before .before .before .asks-again .ensures .no (c .before .before .before .before .before .if2 .left))
+    (next-only (pre .1) (pre .0) write (home .0) (home .1)))
 
 pub enter-spec : {M : Type 1} → statement M
 enter-spec =

@@ -4,14 +4,15 @@ use mathlib.Core.Path.{_≡_, refl, sym, ap, _∙_}
 use mathlib.Core.Logic.{_⊎_, inl, inr, ⊎-elim}
 use mathlib.Core.List.{List}
 use native.Mathlib.Omega.{arith}
-use native.Mathlib.Decide.{decLt}
+use native.Mathlib.Decide.{decLt, ℕ-discrete}
 use lib.ListN.{getD, replicate, length-replicate, getD-replicate, List·getD-eq-default}
+use lib.Seq.{ext-getD}
 use Rattle.chains.specs.declared.Linked.{Linked}
 use Rattle.chains.specs.declared.Linked.the-variants.{All as allLinked, Again as againAt}
 use Rattle.chains.specs.declared.Write.{Write}
 use Rattle.chains.specs.declared.Write.the-variants.{At, None}
 use Rattle.chains.specs.Chains.{Asks, Again, NoneAgain}
-use Rattle.chains.specs.Table.{Latest, Chained, Empty, Found, Linking}
+use Rattle.chains.specs.Table.{Latest, Chained, Empty, Found, Stays, Linking, SameLink}
 
 -- two numbers are equal, or one is less
 order : (p q : ℕ) → (p < q) ⊎ ((q < p) ⊎ (p ≡ q))
@@ -42,22 +43,19 @@ module _ {kinds cells values : List ℕ} where
   found-write (At x) f a l none = let (lx, ax) = f .at x refl in ap At (one-write ax a lx l none)
   found-write {n} {w} None f a l none = absurd (f .none refl w l a)
 
-  -- and has one right answer
-  pub one-found : {n c v : ℕ} (r s : Write) → Found kinds cells values n c v r → Found kinds cells values n c v s → NoneAgain kinds cells values n → r ≡ s
-  one-found (At x) s f g none = let (lx, ax) = f .at x refl in sym (found-write s g ax lx none)
-  one-found None (At y) f g none = let (ly, ay) = g .at y refl in found-write None f ay ly none
-  one-found None None f g none = refl
+  -- and a search has one right answer, whatever the table holds
+  pub one-found : {n c v : ℕ} (r s : Write) → Found kinds cells values n c v r → Found kinds cells values n c v s → r ≡ s
+  one-found (At x) (At y) f g =
+      let (lx, ax) = f .at x refl in
+      let (ly, ay) = g .at y refl in
+      ap At (⊎-elim (λ l. absurd (f .latest x refl y l ly ay)) (⊎-elim (λ l. absurd (g .latest y refl x l lx ax)) (λ e. e)) (order x y))
+  one-found (At x) None f g = let (lx, ax) = f .at x refl in absurd (g .none refl x lx ax)
+  one-found None (At y) f g = let (ly, ay) = g .at y refl in absurd (f .none refl y ly ay)
+  one-found None None f g = refl
 
   -- the first that asks again is one entry
   pub one-first : {p q : ℕ} → Again kinds cells values p → Again kinds cells values q → NoneAgain kinds cells values p → NoneAgain kinds cells values q → p ≡ q
   one-first {p} {q} a b n m = ⊎-elim (λ l. absurd (m p l a)) (⊎-elim (λ l. absurd (n q l b)) (λ e. e)) (order p q)
-
-  -- linking has one right answer, whatever the tables are
-  pub one-link : {n : ℕ} {head next head′ next′ : List ℕ} (r s : Linked) → Linking kinds cells values n head next r → Linking kinds cells values n head′ next′ s → r ≡ s
-  one-link allLinked allLinked a b = refl
-  one-link allLinked (againAt q) a b = let (l, (g, _)) = b .again q refl in absurd (a .all refl .0 q l g)
-  one-link (againAt p) allLinked a b = let (l, (g, _)) = a .again p refl in absurd (b .all refl .0 p l g)
-  one-link (againAt p) (againAt q) a b = let (_, (g, f)) = a .again p refl in let (_, (h, e)) = b .again q refl in ap againAt (one-first g h f e)
 
   -- a chain below an entry has one latest write
   pub one-latest : {n h a b : ℕ} → Latest kinds cells values n h a → Latest kinds cells values n h b → a ≡ b
@@ -69,6 +67,44 @@ module _ {kinds cells values : List ℕ} where
   pub one-table : {n : ℕ} {head next head′ next′ : List ℕ} → Chained kinds cells values n head next → Chained kinds cells values n head′ next′ →
       ((h : ℕ) → h < 4096 → getD head h 0 ≡ getD head′ h 0) × ((p : ℕ) → p < n → getD kinds p 0 ≡ 1 → getD next p 0 ≡ getD next′ p 0)
   one-table s t = (λ h l. one-latest (s .heads h l) (t .heads h l), λ p l w. one-latest (s .nexts p l w) (t .nexts p l w))
+
+  -- and with what stood there before all of next
+  same-table : {n : ℕ} {was head next head′ next′ : List ℕ} → Chained kinds cells values n head next → Chained kinds cells values n head′ next′
+      → Stays kinds n was next → Stays kinds n was next′ → (head ≡ head′) × (next ≡ next′)
+  same-table {n} {was} {head} {next} {head′} {next′} s t u v = (
+    ext-getD 0 head head′ (s .head-long ∙ sym (t .head-long)) (λ h l. one-table s t .0 h (omega (arith, s .head-long))),
+    ext-getD 0 next next′ (s .next-long ∙ sym (t .next-long)) (λ p l. elim (decLt p n) [
+      | yes b ↦ elim (ℕ-discrete (getD kinds p 0) 1) [
+        | yes w ↦ one-table s t .1 p b w
+        | no w ↦ u .same p (λ _ e. w e) ∙ sym (v .same p (λ _ e. w e))
+      ]
+      | no b ↦ u .same p (λ e _. b e) ∙ sym (v .same p (λ e _. b e))
+    ]),
+  )
+
+  -- linking has one right answer
+  one-linked : {n : ℕ} {was head next head′ next′ : List ℕ} (r s : Linked) → Linking kinds cells values n was head next r → Linking kinds cells values n was head′ next′ s
+      → r ≡ s
+  one-linked allLinked allLinked a b = refl
+  one-linked allLinked (againAt q) a b = let (l, (g, _)) = b .again q refl in absurd (a .all refl .0 q l g)
+  one-linked (againAt p) allLinked a b = let (l, (g, _)) = a .again p refl in absurd (b .all refl .0 p l g)
+  one-linked (againAt p) (againAt q) a b = let (_, (g, f)) = a .again p refl in let (_, (h, e)) = b .again q refl in ap againAt (one-first g h f e)
+
+  -- and leaves one table, in every number of it
+  pub one-link : {n : ℕ} {was head next head′ next′ : List ℕ} (r s : Linked) → Linking kinds cells values n was head next r → Linking kinds cells values n was head′ next′ s
+      → SameLink r s head head′ next next′
+  one-link {n} {was} {head} {next} {head′} {next′} r s a b = go r s (one-linked r s a b) a b
+    where
+      joined : (x y : Linked) → x ≡ y → (head ≡ head′) × (next ≡ next′) → SameLink x y head head′ next next′
+      joined x y e t = record { answer = e; heads = t .0; nexts = t .1 }
+
+      go : (x y : Linked) → x ≡ y → Linking kinds cells values n was head next x → Linking kinds cells values n was head′ next′ y → SameLink x y head head′ next next′
+      go allLinked y e f g =
+          let d = sym e in
+          joined allLinked y e (same-table (f .all refl .1) (g .all d .1) (f .all-stays refl) (g .all-stays d))
+      go (againAt p) y e f g =
+          let d = sym e in
+          joined (againAt p) y e (same-table (f .begun p refl) (g .begun p d) (f .begun-stays p refl) (g .begun-stays p d))
 
 -- in an array of zeros everything is 0, past its end too
 pub zero-at : (n i : ℕ) → _≡_ {A = ℕ} (getD (replicate n 0) i 0) 0

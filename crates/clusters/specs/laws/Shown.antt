@@ -23,7 +23,7 @@ use Rattle.law.specs.laws.Lists.{in-next}
 use Rattle.law.specs.laws.Steps.{Step, stepOf, noteStep, note-step, ending, ending-keeps}
 use Rattle.law.specs.Standing.{has}
 use Rattle.law.specs.laws.Steps.Step.{asks, ends}
-use Rattle.law.specs.laws.Operations.{Tied, tied-next, tied-fresh}
+use Rattle.law.specs.laws.Operations.{Matches, tied-next, tied-fresh}
 use Rattle.chains.specs.Chains.{Asks}
 use Rattle.clusters.specs.laws.Arrays.{Arrays, kindAt, cellAt, valueAt}
 use Rattle.clusters.specs.laws.Bridge.{Holds, write-entry, cell-start, value-start, entry-write}
@@ -93,7 +93,7 @@ told-read st client v f = go (eqb (has st (client .0)) 1) refl f
     go false e f = absurd (omega arith)
 
 -- an operation after one entry more
-stays-next : (st : Standing) (n : ℕ) (e : Entry) (ops : List Op) → faultAfter st e ≡ 0 → Tied st ops → (x : Op) → In x ops → (y : Op) × (In y (noteStep n (stepOf e) ops) × Stays x y)
+stays-next : (st : Standing) (n : ℕ) (e : Entry) (ops : List Op) → faultAfter st e ≡ 0 → Matches st ops → (x : Op) → In x ops → (y : Op) × (In y (noteStep n (stepOf e) ops) × Stays x y)
 stays-next st n (ReadAsked client cell) ops f t x m = (x, (mem-left (asked n (client .0) (cell .0) false (pos 0) n ∷ []) m, stays-same x))
 stays-next st n (WriteAsked client cell v) ops f t x m = (x, (mem-left (asked n (client .0) (cell .0) true v n ∷ []) m, stays-same x))
 stays-next st n (Told client v) ops f t x m = (
@@ -109,7 +109,7 @@ stays-next st n (Told client v) ops f t x m = (
 stays-next st n (Done client) ops f t x m = (ending n (client .0) (λ old. old) x, (mem-map (ending n (client .0) (λ old. old)) m, stays-ending n (client .0) (λ old. old) x (λ w o. refl)))
 
 -- after all
-stays-after : (st : Standing) (n : ℕ) (es : List Entry) (ops : List Op) → Follows st es → Tied st ops → (x : Op) → In x ops → (y : Op) × (In y (notes n es ops) × Stays x y)
+stays-after : (st : Standing) (n : ℕ) (es : List Entry) (ops : List Op) → Follows st es → Matches st ops → (x : Op) → In x ops → (y : Op) × (In y (notes n es ops) × Stays x y)
 unfolding notes
 stays-after st n [] ops f t x m = (x, (m, stays-same x))
 stays-after st n (e ∷ es) ops f t x m =
@@ -145,7 +145,7 @@ below-next n (ends k v) ops d x m =
 
 module _ (a : Arrays) (all : ℕ) (final : List Op) (h : Holds a all final) where
   -- the entry n starts x
-  starts : (n : ℕ) (es : List Entry) (st : Standing) (ops : List Op) → Follows st es → Tied st ops → notes n es ops ≡ final → (x : Op) → In x ops → (y : Op) × (In y final × Stays x y)
+  starts : (n : ℕ) (es : List Entry) (st : Standing) (ops : List Op) → Follows st es → Matches st ops → notes n es ops ≡ final → (x : Op) → In x ops → (y : Op) × (In y final × Stays x y)
   starts n es st ops f t e x m = let s = stays-after st n es ops f t x m in (s .0, (subst (λ (l : List Op). In (s .0) l) e (s .1 .0), s .1 .1))
 
   shows-write : (x y : Op) → In y final → Stays x y → x .write ≡ true → Asks (a .kinds) (a .cells) (a .values) (x .number) (x .cell) (alternatingOf (x .value))
@@ -171,7 +171,7 @@ module _ (a : Arrays) (all : ℕ) (final : List Op) (h : Holds a all final) wher
           omega (arith, d (c .0) (c .1), q, b .1 .1, ending-keeps (λ (o : Op). o .number) (λ t u y. refl) n k v (c .0), ap (λ (o : Op). o .number) (c .2)))
           (λ r. omega (arith, r, q)) (begun-after (suc n) es (noteStep n (ends k v) ops) x (subst (λ (l : List Op). In x l) (sym e) m))
 
-  shown-one : (n : ℕ) (e : Entry) (es : List Entry) (st : Standing) (ops : List Op) → n < all → Follows st (e ∷ es) → Tied st ops → Below n ops
+  shown-one : (n : ℕ) (e : Entry) (es : List Entry) (st : Standing) (ops : List Op) → n < all → Follows st (e ∷ es) → Matches st ops → Below n ops
       → notes (suc n) es (note n e ops) ≡ final → Shows a n e
   unfolding note
   shown-one n (ReadAsked client cell) es st ops l f t d e =
@@ -185,7 +185,7 @@ module _ (a : Arrays) (all : ℕ) (final : List Op) (h : Holds a all final) wher
   shown-one n (Told client v) es st ops l f t d e = shows-end n es (client .0) (λ old. v) ops l d e
   shown-one n (Done client) es st ops l f t d e = shows-end n es (client .0) (λ old. old) ops l d e
 
-  shown-from : (n : ℕ) (es : List Entry) (st : Standing) (ops : List Op) → n + length es ≡ all → Follows st es → Tied st ops → Below n ops → notes n es ops ≡ final → AllShow a n es
+  shown-from : (n : ℕ) (es : List Entry) (st : Standing) (ops : List Op) → n + length es ≡ all → Follows st es → Matches st ops → Below n ops → notes n es ops ≡ final → AllShow a n es
   unfolding notes
   shown-from n [] st ops l f t d e = tt
   shown-from n (x ∷ es) st ops l f t d e = (

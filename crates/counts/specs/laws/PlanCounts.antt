@@ -15,8 +15,8 @@ use Rattle.stamps.specs.declared.Pair.{Pair}
 use Rattle.method.specs.declared.Body.{Body}
 use Rattle.method.specs.declared.Body.the-variants.{Ask, Tell, Keep, Kept}
 use Rattle.method.specs.declared.Message.{Message}
-use Rattle.method.specs.declared.Held.{Held}
-use Rattle.method.specs.declared.Held.the-variants.{Empty, Full}
+use Rattle.method.specs.declared.InSlot.{InSlot}
+use Rattle.method.specs.declared.InSlot.the-variants.{Empty, Full}
 use Rattle.method.specs.declared.Goal.{Goal}
 use Rattle.method.specs.declared.Goal.the-variants.{Read, Write}
 use Rattle.method.specs.declared.Work.{Work}
@@ -30,9 +30,9 @@ use Rattle.method.specs.declared.Event.the-variants.{StartRead, StartWrite, Del
 use Rattle.method.specs.declared.Note.{Note}
 use Rattle.method.specs.declared.Note.the-variants.{Nothing, Asked, Ended}
 use Rattle.method.specs.declared.Plan.{Plan}
-use Rattle.method.specs.declared.Outcome.{Outcome}
-use Rattle.method.specs.declared.Outcome.the-variants.{No, Go}
-use Rattle.method.specs.Plan.{messageOf, partyAt, planned, usedUp, answered, started, startIn, startOf, askOf, keepOf, current, keepsOf, phaseEnds, tellCounts, tellIn, tellOf}
+use Rattle.method.specs.declared.Decision.{Decision}
+use Rattle.method.specs.declared.Decision.the-variants.{No, Go}
+use Rattle.method.specs.Plan.{messageOf, activeParty, planned, usedUp, answered, started, startIn, startOf, askOf, keepOf, current, keepsOf, phaseEnds, tellCounts, tellIn, tellOf}
 use Rattle.method.specs.Plan.{lastEntry, keptCounts, keptIn, keptOf, deliverIn, deliverOf, copyOf, resendIn, resendOf, stopOf, powered, offOf, onOf, ofSlot, planOf}
 use Rattle.rack.specs.Places.{roomOf}
 use Rattle.rack.specs.Sound.{heldFits, owes, owed, soundOf}
@@ -78,7 +78,7 @@ pub record PlanCounts (n client : ℕ) (party : Party) (e : Event) (p : Plan) : 
   pub else-ends : (c : ℕ) → (client ≡ c → ⊥) → endsIn c (p .note) ≡ 0
 
 -- what holds of an outcome: of a refusal nothing, of a plan these counts
-abbrev pub OutcomeCounts : ℕ → ℕ → Party → Event → Outcome → Type 0
+abbrev pub OutcomeCounts : ℕ → ℕ → Party → Event → Decision → Type 0
 OutcomeCounts n client party e (No k) = Unit {0}
 OutcomeCounts n client party e (Go p) = PlanCounts n client party e p
 
@@ -143,7 +143,7 @@ module _ (n : ℕ) (few : n ≤ setBits) (power : ℕ) (party : Party) (pair : P
 
   module _ (m : Message) (slot : ℕ) where
     -- of the client whose message it is
-    abbrev Counts : Event → Outcome → Type 0
+    abbrev Counts : Event → Decision → Type 0
     Counts e o = OutcomeCounts n (m .client .0) party e o
 
     used-counts : (e : Event) → deliveredBy e + lostBy e ≡ 1 → copiedBy e ≡ 0 → Counts e (usedUp seen m)
@@ -183,7 +183,7 @@ module _ (n : ℕ) (few : n ≤ setBits) (power : ℕ) (party : Party) (pair : P
 
     -- the client is in the same phase, with another set
     stays-counts : (work : Work) → costIn n work ≡ costIn n (party .work) → owes work ≡ owes (party .work)
-        → Counts (Deliver slot) (planned seen (partyAt (party .op) work) true Nothing m 0)
+        → Counts (Deliver slot) (planned seen (activeParty (party .op) work) true Nothing m 0)
     unfolding freed deliveredBy lostBy sentBy copiedBy
     stays-counts work c o =
         let z : ones 0 ≡ 0 = none-count in
@@ -200,7 +200,7 @@ module _ (n : ℕ) (few : n ≤ setBits) (power : ℕ) (party : Party) (pair : P
 
     -- the operation ends
     last-counts : (cell : Cell) (goal : Goal) (set : ℕ) (held : Pair) → party .work ≡ Keeping cell goal set held
-        → Counts (Deliver slot) (planned seen (partyAt (party .op) Idle) true (Ended (lastEntry goal (m .client) held)) m 0)
+        → Counts (Deliver slot) (planned seen (activeParty (party .op) Idle) true (Ended (lastEntry goal (m .client) held)) m 0)
     unfolding freed deliveredBy lostBy sentBy copiedBy owes costIn
     last-counts cell goal set held at =
         let z : ones 0 ≡ 0 = none-count in
@@ -273,7 +273,7 @@ module _ (n : ℕ) (few : n ≤ setBits) (power : ℕ) (party : Party) (pair : P
 
   -- ---- every event
 
-  pub plan-counts : (held : Held) → ((m : Message) → held ≡ Full m → m .replica .0 < setBits) → (e : Event)
+  pub plan-counts : (held : InSlot) → ((m : Message) → held ≡ Full m → m .replica .0 < setBits) → (e : Event)
       → OutcomeCounts n (clientOf e held) party e (planOf seen held e)
   unfolding planOf ofSlot clientOf clientIn deliverOf offOf onOf deliveredBy lostBy sentBy copiedBy resentBy endsBy
   plan-counts held h (StartRead client cell) = start-counts (StartRead client cell) client cell Read _ (λ c. refl) refl refl (λ p. refl) (λ c k p. refl)
@@ -293,7 +293,7 @@ module _ (n : ℕ) (few : n ≤ setBits) (power : ℕ) (party : Party) (pair : P
 -- ---- an event that is done
 
 -- its message is to or from a replica of the rack
-held-replica : (z : Sizes) (held : Held) (m : Message) → heldFits z held ≡ true → held ≡ Full m → m .replica .0 < z .replicas
+held-replica : (z : Sizes) (held : InSlot) (m : Message) → heldFits z held ≡ true → held ≡ Full m → m .replica .0 < z .replicas
 unfolding heldFits
 held-replica z held m h e = named z m (ap (heldFits z) (sym e) ∙ h) .replica
 

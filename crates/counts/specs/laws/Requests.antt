@@ -19,17 +19,16 @@ use Rattle.method.specs.declared.Event.{Event}
 use Rattle.method.specs.declared.Note.{Note}
 use Rattle.method.specs.declared.Note.the-variants.{Nothing, Asked, Ended}
 use Rattle.method.specs.declared.Plan.{Plan}
-use Rattle.method.specs.declared.Outcome.the-variants.{Go}
+use Rattle.method.specs.declared.Decision.the-variants.{Go}
 use Rattle.rack.specs.Places.{blank, idle, partyAt, recordOf}
 use Rattle.rack.specs.Sound.{owes, soundOf}
-use Rattle.rack.specs.Run.{decided, recorded, entriesIn, appliedOf, freshRack, madeOf, runOf}
+use Rattle.rack.specs.Run.{decided, recorded, entriesIn, appliedOf, freshRack}
 use Rattle.rack.specs.laws.SoundLaws.{sound-of}
 use Rattle.rack.specs.laws.Fresh.{made-sound}
 use Rattle.rack.specs.laws.Decided.{lookedClient, lookedParty, decided-fits}
 use Rattle.runs.specs.laws.Stays.{stays, sound-stays}
 use Rattle.runs.specs.laws.Loop.{applied-parties}
-use Rattle.counts.specs.Counts.{countOf, requestsBy, resentBy, costIn, costOf, endsBy, endsOf}
-use Rattle.counts.specs.Counts.{madeRack, rackAfter}
+use Rattle.counts.specs.Counts.{totalOf, requestsBy, resentBy, costIn, costOf, endsBy, endsOf, madeRack, rackAfter}
 use Rattle.counts.specs.laws.Costing.{resent-none}
 use Rattle.counts.specs.laws.PlanCounts.{endsIn, PlanCounts, decided-counts}
 use Rattle.counts.specs.laws.Runs.{Adds, run-adds, made-fresh}
@@ -206,7 +205,7 @@ present-cost n party = rw (le-ltb (party .op) (party .op) (omega arith), eq-eqb 
 
 module _ (replicas clients cells allowance : ℕ) (ws : List ℕ) where
   ran : (c k : ℕ) → 1 ≤ k → Numbered ((madeRack replicas clients cells) .sizes .replicas) c (rackAfter replicas clients cells allowance ws)
-      × (costOf ((madeRack replicas clients cells) .sizes .replicas) (partyAt (rackAfter replicas clients cells allowance ws) c) k + countOf (resentBy c k) (madeRack replicas clients cells) allowance ws ≡ countOf (requestsBy c k) (madeRack replicas clients cells) allowance ws)
+      × (costOf ((madeRack replicas clients cells) .sizes .replicas) (partyAt (rackAfter replicas clients cells allowance ws) c) k + totalOf (resentBy c k) (madeRack replicas clients cells) allowance ws ≡ totalOf (requestsBy c k) (madeRack replicas clients cells) allowance ws)
   ran c k h =
       let s = made-sound replicas clients cells in
       let f = made-fresh (Fresh c) (fresh-numbered c) replicas clients cells s in
@@ -216,20 +215,20 @@ module _ (replicas clients cells allowance : ℕ) (ws : List ℕ) where
 
   -- Operation k of client c, ended or open or not yet started: its requests are what it costs where it stands, plus its resends.
   pub costs : (c k : ℕ) → 1 ≤ k
-      → countOf (requestsBy c k) (madeRack replicas clients cells) allowance ws ≡ costOf ((madeRack replicas clients cells) .sizes .replicas) (partyAt (rackAfter replicas clients cells allowance ws) c) k + countOf (resentBy c k) (madeRack replicas clients cells) allowance ws
+      → totalOf (requestsBy c k) (madeRack replicas clients cells) allowance ws ≡ costOf ((madeRack replicas clients cells) .sizes .replicas) (partyAt (rackAfter replicas clients cells allowance ws) c) k + totalOf (resentBy c k) (madeRack replicas clients cells) allowance ws
   costs c k h = sym (ran c k h .1)
 
   -- A finished operation, whose end entry is in the record, has cost 2 requests per replica, plus its resends.
   pub two-per-replica : (c k : ℕ) → 1 ≤ k → k ≤ endsOf c (recordOf (rackAfter replicas clients cells allowance ws))
-      → countOf (requestsBy c k) (madeRack replicas clients cells) allowance ws ≡ 2 * (madeRack replicas clients cells) .sizes .replicas + countOf (resentBy c k) (madeRack replicas clients cells) allowance ws
+      → totalOf (requestsBy c k) (madeRack replicas clients cells) allowance ws ≡ 2 * (madeRack replicas clients cells) .sizes .replicas + totalOf (resentBy c k) (madeRack replicas clients cells) allowance ws
   two-per-replica c k h l =
       let e = ended-cost ((madeRack replicas clients cells) .sizes .replicas) (partyAt (rackAfter replicas clients cells allowance ws) c) (endsOf c (recordOf (rackAfter replicas clients cells allowance ws))) k (ran c k h .0 .ends) l in
       omega (arith, costs c k h, e)
 
   -- The present operation of client c: 1 request per replica while it asks, 2 from then on, plus its resends.
   pub present : (c : ℕ) → 1 ≤ partyAt (rackAfter replicas clients cells allowance ws) c .op
-      → countOf (requestsBy c (partyAt (rackAfter replicas clients cells allowance ws) c .op)) (madeRack replicas clients cells) allowance ws
-      ≡ costIn ((madeRack replicas clients cells) .sizes .replicas) (partyAt (rackAfter replicas clients cells allowance ws) c .work) + countOf (resentBy c (partyAt (rackAfter replicas clients cells allowance ws) c .op)) (madeRack replicas clients cells) allowance ws
+      → totalOf (requestsBy c (partyAt (rackAfter replicas clients cells allowance ws) c .op)) (madeRack replicas clients cells) allowance ws
+      ≡ costIn ((madeRack replicas clients cells) .sizes .replicas) (partyAt (rackAfter replicas clients cells allowance ws) c .work) + totalOf (resentBy c (partyAt (rackAfter replicas clients cells allowance ws) c .op)) (madeRack replicas clients cells) allowance ws
   present c h = omega (arith, costs c (partyAt (rackAfter replicas clients cells allowance ws) c .op) h, present-cost ((madeRack replicas clients cells) .sizes .replicas) (partyAt (rackAfter replicas clients cells allowance ws) c))
 
   -- The operations that the record ends, and an open one, are the client's operation numbers.

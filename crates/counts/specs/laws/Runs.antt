@@ -8,8 +8,8 @@ use lib.Dec.{ltb, eqb}
 use lib.ListN.{length}
 use Rattle.method.specs.declared.Event.{Event}
 use Rattle.method.specs.declared.Plan.{Plan}
-use Rattle.method.specs.declared.Outcome.{Outcome}
-use Rattle.method.specs.declared.Outcome.the-variants.{No, Go}
+use Rattle.method.specs.declared.Decision.{Decision}
+use Rattle.method.specs.declared.Decision.the-variants.{No, Go}
 use Rattle.rack.specs.declared.Rack.{Rack}
 use Rattle.rack.specs.declared.Ran.{Ran}
 use Rattle.rack.specs.declared.Made.{Made}
@@ -17,7 +17,7 @@ use Rattle.rack.specs.Sound.{sizesFit, soundOf}
 use Rattle.rack.specs.Run.{eventOf, decided, appliedOf, turn, ranOf, runFrom, runOf, freshRack, madeOf}
 use Rattle.rack.specs.Counts.{counted, countOver}
 use Rattle.runs.specs.laws.Steps.{sound-from, run-steps}
-use Rattle.counts.specs.Counts.{countOf}
+use Rattle.counts.specs.Counts.{totalOf}
 use Rattle.method.specs.laws.Tests.{whichever}
 
 -- ---- two counts at once
@@ -31,15 +31,15 @@ both-over f g (suc left) r (k ∷ a ∷ []) = refl
 both-over f g (suc left) r (k ∷ a ∷ b ∷ []) = refl
 both-over f g (suc left) r (k ∷ a ∷ b ∷ v ∷ ws) = go (decided r (eventOf k a b v)) (λ q. both-over f g left q ws)
   where
-    go : (o : Outcome) → ((q : Rack) → countOver (λ e p. f e p + g e p) left q ws ≡ countOver f left q ws + countOver g left q ws)
+    go : (o : Decision) → ((q : Rack) → countOver (λ e p. f e p + g e p) left q ws ≡ countOver f left q ws + countOver g left q ws)
         → counted (λ e p. f e p + g e p) r (eventOf k a b v) o (λ q. countOver (λ e p. f e p + g e p) left q ws)
         ≡ counted f r (eventOf k a b v) o (λ q. countOver f left q ws) + counted g r (eventOf k a b v) o (λ q. countOver g left q ws)
     go (No n) ih = refl
     go (Go p) ih = omega (arith, ih (appliedOf r (eventOf k a b v) p))
 
 pub both : (f g : Event → Plan → ℕ) (r : Rack) (allowance : ℕ) (ws : List ℕ)
-    → countOf (λ e p. f e p + g e p) r allowance ws ≡ countOf f r allowance ws + countOf g r allowance ws
-unfolding countOf
+    → totalOf (λ e p. f e p + g e p) r allowance ws ≡ totalOf f r allowance ws + totalOf g r allowance ws
+unfolding totalOf
 both f g r allowance ws = both-over f g (runOf r allowance ws .done) r ws
 
 -- ---- a run of a sound rack
@@ -60,7 +60,7 @@ module _ (I : Rack → Type 0) (v : Rack → ℕ) (less more : Event → Plan �
   from-adds done r (suc left) (k ∷ a ∷ b ∷ []) i = (i, refl)
   from-adds done r (suc left) (k ∷ a ∷ b ∷ w ∷ ws) i = go (decided r (eventOf k a b w)) refl (λ q. from-adds (done + 1) q left ws)
     where
-      go : (o : Outcome) → decided r (eventOf k a b w) ≡ o
+      go : (o : Decision) → decided r (eventOf k a b w) ≡ o
           → ((q : Rack) → I q → I (runFrom (done + 1) q left ws .rack) × (v (runFrom (done + 1) q left ws .rack) + countOver less left q ws ≡ v q + countOver more left q ws))
           → I (turn done r (eventOf k a b w) o (λ q. runFrom (done + 1) q left ws) .rack)
           × (v (turn done r (eventOf k a b w) o (λ q. runFrom (done + 1) q left ws) .rack) + counted less r (eventOf k a b w) o (λ q. countOver less left q ws)
@@ -73,8 +73,8 @@ module _ (I : Rack → Type 0) (v : Rack → ℕ) (less more : Event → Plan �
 
   -- just the events done leave the same rack
   pub run-adds : (r : Rack) (allowance : ℕ) (ws : List ℕ) → soundOf r ≡ true → I r
-      → I (runOf r allowance ws .rack) × (v (runOf r allowance ws .rack) + countOf less r allowance ws ≡ v r + countOf more r allowance ws)
-  unfolding countOf
+      → I (runOf r allowance ws .rack) × (v (runOf r allowance ws .rack) + totalOf less r allowance ws ≡ v r + totalOf more r allowance ws)
+  unfolding totalOf
   run-adds r allowance ws s i =
       let q : Ran = runOf r allowance ws in
       let e : runFrom 0 r (q .done) ws .rack ≡ q .rack = ap (λ (x : Ran). x .rack) (sym (sound-from r (q .done) ws s) ∙ run-steps r allowance ws .same) in
@@ -84,7 +84,7 @@ module _ (I : Rack → Type 0) (v : Rack → ℕ) (less more : Event → Plan �
 
 -- a run in which nothing is counted and which leaves the rack as it was
 pub record Untouched (f : Event → Plan → ℕ) (r : Rack) (allowance : ℕ) (ws : List ℕ) : Type 0 where
-  pub count : countOf f r allowance ws ≡ 0
+  pub count : totalOf f r allowance ws ≡ 0
   pub left : runOf r allowance ws .rack ≡ r
 
 -- a run by its three tests
@@ -92,7 +92,7 @@ abbrev runIf : Bool → Bool → Bool → Rack → ℕ → List ℕ → Ran
 runIf none few sound r allowance ws = cond none (ranOf 0 0 r) (cond few (ranOf 0 0 r) (cond sound (runFrom 0 r allowance ws) (ranOf 0 2 r)))
 
 pub unsound-none : (f : Event → Plan → ℕ) (r : Rack) (allowance : ℕ) (ws : List ℕ) → soundOf r ≡ false → Untouched f r allowance ws
-unfolding countOf runOf countOver
+unfolding totalOf runOf countOver
 unsound-none f r allowance ws u =
     let e = go (eqb allowance 0) (ltb (length ws) 4) in
     let same : runOf r allowance ws ≡ runIf (eqb allowance 0) (ltb (length ws) 4) false r allowance ws =

@@ -1,16 +1,19 @@
 -- Events: no other outcome fits a call, and wrong ones do not meet its contract. Those of `decode` stand in crate rack, where an edit of what four words mean
 -- is refused by them.
-use Prim.Native.Nat.{ℕ}
+use Prim.Native.Nat.{ℕ, _+_}
 use mathlib.Core.Path.{_≡_, ap}
 use mathlib.Core.Bool.{Bool, true, false}
+use mathlib.Core.List.{List}
 use native.Mathlib.Omega.{arith}
 use lib.Count.{ones}
 use Rattle.record.specs.declared.Entry.the-variants.{Done}
-use Rattle.method.specs.declared.Held.the-variants.{Full}
+use Rattle.method.specs.declared.InSlot.the-variants.{Full}
 use Rattle.method.specs.declared.Event.the-variants.{StartRead, Deliver, Stop}
 use Rattle.method.specs.declared.Note.the-variants.{Nothing, Asked}
-use Rattle.method.specs.declared.Outcome.{Outcome}
+use Rattle.method.specs.declared.Party.{Party}
+use Rattle.method.specs.declared.Decision.{Decision}
 use Rattle.method.specs.About.{clientIn, clientOf}
+use Rattle.rack.specs.Sound.{owedIn}
 use Rattle.rack.specs.Run.{inRack, slotOf, placeIn, noted, freed, checked}
 use Rattle.method.specs.Answers.{refusalIn}
 use Rattle.stamps.specs.laws.OnlyOne.{yes-not-no}
@@ -61,18 +64,19 @@ not-the-slot r p q = omega arith
 
 -- ---- checked
 
-pub one-checked : (o : Outcome) (taken room : ℕ) (r r′ : Outcome) → r ≡ checked o taken room → r′ ≡ checked o taken room → SameOutcome r r′
-one-checked o taken room r r′ p q = one-outcome (checked o taken room) r r′ p q
+pub one-checked : (o : Decision) (count : ℕ) (parties : List Party) (clients room : ℕ) (r r′ : Decision)
+    → r ≡ checked o (count + owedIn clients parties) room → r′ ≡ checked o (count + owedIn clients parties) room → SameOutcome r r′
+one-checked o count parties clients room r r′ p q = one-outcome (checked o (count + owedIn clients parties) room) r r′ p q
 
 -- a delivered slot counts as free; a slot that stays doesn't; a start needs room for its entry and its answer
-pub not-13-delivered : (r : Outcome) → r ≡ checked (sending true Nothing) 0 2 → refusalIn r ≡ 13 → ⊥
+pub not-13-delivered : (r : Decision) → r ≡ checked (sending true Nothing) 0 2 → refusalIn r ≡ 13 → ⊥
 unfolding checked noted freed ones refusalIn
 not-13-delivered r p q = let e : refusalIn r ≡ 0 = ap refusalIn p in omega arith
 
-pub not-sent-short : (r : Outcome) → r ≡ checked (sending false Nothing) 0 2 → refusalIn r ≡ 0 → ⊥
+pub not-sent-short : (r : Decision) → r ≡ checked (sending false Nothing) 0 2 → refusalIn r ≡ 0 → ⊥
 unfolding checked noted freed ones refusalIn
 not-sent-short r p q = let e : refusalIn r ≡ 13 = ap refusalIn p in omega arith
 
-pub not-past-2048 : (r : Outcome) → r ≡ checked (sending false (Asked (Done (record { 0 = 0 })))) 2047 9 → refusalIn r ≡ 0 → ⊥
+pub not-past-2048 : (r : Decision) → r ≡ checked (sending false (Asked (Done (record { 0 = 0 })))) 2047 9 → refusalIn r ≡ 0 → ⊥
 unfolding checked noted refusalIn
 not-past-2048 r p q = let e : refusalIn r ≡ 11 = ap refusalIn p in omega arith

@@ -1,6 +1,6 @@
 -- `exports::adze_rack_made` meets its contract.
-use mathlib.Core.Path.{ap, _∙_}
-use Rattle.exports.proofs.Laws.{made-few}
+use mathlib.Core.Path.{ap, sym, _∙_}
+use Rattle.exports.specs.laws.Bounds.{made-fits}
 use Rattle.exports.specs.Packed.{packedRun}
 use borrow.Author.Needs.{needs}
 use Rattle.exports.proofs.adze_rack_made.Statement.{statement}
@@ -10,7 +10,7 @@ made-requires : tie.Need-made-requires
 made-requires c κs = search needs
 
 packed-run-requires : tie.Need-packed-run-requires
-packed-run-requires c κs = made-few _ _ _ _ _ (c .before .before .made .ensures .0)
+packed-run-requires c κs = made-fits _ _ _ _ _ (sym (c .before .before .made .ensures .0))
 
 same-length : tie.Need-same-length
 same-length c = search needs

@@ -1,6 +1,6 @@
 -- `exports::adze_rack_run` meets its contract.
-use mathlib.Core.Path.{ap, _∙_}
-use Rattle.exports.proofs.Laws.{run-few}
+use mathlib.Core.Path.{ap, sym, _∙_}
+use Rattle.exports.specs.laws.Bounds.{run-fits}
 use Rattle.exports.specs.Packed.{packedRun}
 use borrow.Author.Needs.{needs}
 use Rattle.exports.proofs.adze_rack_run.Statement.{statement}
@@ -10,7 +10,7 @@ run-requires : tie.Need-run-requires
 run-requires c κs = search needs
 
 packed-run-requires : tie.Need-packed-run-requires
-packed-run-requires c κs = run-few _ _ _ _ (search needs) (c .before .before .run .ensures .0)
+packed-run-requires c κs = run-fits _ _ _ _ (search needs) (sym (c .before .before .run .ensures .0))
 
 same-length : tie.Need-same-length
 same-length c = search needs

@@ -1,7 +1,7 @@
 -- `exports::adze_read_number` meets its contract. Assumes nothing.
 use mathlib.Core.Path.{sym, ap, _∙_}
 use native.Mathlib.Omega.{arith}
-use Rattle.exports.proofs.Laws.{read-near}
+use Rattle.exports.specs.laws.Bounds.{number-fits}
 use Rattle.exports.specs.Packed.{packedNumber}
 use borrow.Author.Needs.{needs}
 use Rattle.exports.proofs.adze_read_number.Statement.{statement}
@@ -20,13 +20,19 @@ cast-result : tie.Need-cast-result
 cast-result c = search needs
 
 sub-result : tie.Need-sub-result
-sub-result c = let h = read-near _ _ _ _ (λ i. c .before .before .before .before .shared-slice-known .given i .fits) (sym (c .before .before .before .read-number .ensures) ∙ c .before .n .given .1) in omega arith
+sub-result c =
+    let h = number-fits _ _ (λ i. c .before .before .before .before .shared-slice-known .given i .fits) _
+    (sym (c .before .before .before .read-number .ensures) ∙ c .before .n .given .1) in omega arith
 
 mul-result : tie.Need-mul-result
-mul-result c = let h = read-near _ _ _ _ (λ i. c .before .before .before .before .shared-slice-known .given i .fits) (sym (c .before .before .before .read-number .ensures) ∙ c .before .n .given .1) in omega arith
+mul-result c =
+    let h = number-fits _ _ (λ i. c .before .before .before .before .shared-slice-known .given i .fits) _
+    (sym (c .before .before .before .read-number .ensures) ∙ c .before .n .given .1) in omega arith
 
 add-result : tie.Need-add-result
-add-result c = let h = read-near _ _ _ _ (λ i. c .before .before .before .before .shared-slice-known .given i .fits) (sym (c .before .before .before .read-number .ensures) ∙ c .before .n .given .1) in omega arith
+add-result c =
+    let h = number-fits _ _ (λ i. c .before .before .before .before .shared-slice-known .given i .fits) _
+    (sym (c .before .before .before .read-number .ensures) ∙ c .before .n .given .1) in omega arith
 
 enum-known-k : tie.Need-enum-known-k
 enum-known-k c = search needs

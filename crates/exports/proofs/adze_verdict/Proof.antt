@@ -1,5 +1,5 @@
 -- `exports::adze_verdict` meets its contract. Assumes nothing.
-use Rattle.exports.proofs.Laws.{verdict-brief}
+use Rattle.exports.specs.laws.Bounds.{verdict-fits}
 use borrow.Author.Needs.{needs}
 use Rattle.exports.proofs.adze_verdict.Statement.{statement}
 use Rattle.exports.proofs.adze_verdict.Tie as tie
@@ -12,7 +12,7 @@ judge-requires : tie.Need-judge-requires
 judge-requires c κs = search needs
 
 packed-verdict-requires : tie.Need-packed-verdict-requires
-packed-verdict-requires c κs = verdict-brief (c .before .before .args .bytes .now) (λ i. c .before .shared-slice-known .given i .fits) (c .judge .result) (c .judge .ensures)
+packed-verdict-requires c κs = verdict-fits (c .before .before .args .bytes .now) (λ i. c .before .shared-slice-known .given i .fits) (c .judge .result) (c .judge .ensures)
 
 returns : tie.Need-returns
 returns c = (c .before .judge .result, (c .before .judge .ensures, c .packed-verdict .ensures))

@@ -1,7 +1,7 @@
 -- `exports::adze_write_number` meets its contract. Assumes nothing.
 use mathlib.Core.Path.{sym, ap, _∙_}
 use native.Mathlib.Omega.{arith}
-use Rattle.exports.proofs.Laws.{put-near}
+use Rattle.exports.specs.laws.Bounds.{put-fits-bits}
 use Rattle.exports.specs.Packed.{packedPut}
 use borrow.Author.Needs.{needs}
 use Rattle.exports.proofs.adze_write_number.Statement.{statement}
@@ -17,10 +17,10 @@ enum-known-next : tie.Need-enum-known-next
 enum-known-next c = search needs
 
 sub-result : tie.Need-sub-result
-sub-result c = let h = put-near _ _ _ _ (sym (c .before .before .before .before .before .write-number .ensures .answer) ∙ c .before .next .given .1) in omega arith
+sub-result c = let h = put-fits-bits _ _ _ _ (sym (c .before .before .before .before .before .write-number .ensures .answer) ∙ c .before .next .given .1) in omega arith
 
 mul-result : tie.Need-mul-result
-mul-result c = let h = put-near _ _ _ _ (sym (c .before .before .before .before .before .write-number .ensures .answer) ∙ c .before .next .given .1) in omega arith
+mul-result c = let h = put-fits-bits _ _ _ _ (sym (c .before .before .before .before .before .write-number .ensures .answer) ∙ c .before .next .given .1) in omega arith
 
 enum-told : tie.Need-enum-told
 enum-told c = search needs

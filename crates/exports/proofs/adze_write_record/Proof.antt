@@ -1,6 +1,6 @@
 -- `exports::adze_write_record` meets its contract. Assumes nothing.
-use mathlib.Core.Path.{ap, _∙_}
-use Rattle.exports.proofs.Laws.{write-small}
+use mathlib.Core.Path.{ap, sym, _∙_}
+use Rattle.exports.specs.laws.Bounds.{write-fits}
 use Rattle.exports.specs.Packed.{packedAnswer}
 use borrow.Author.Needs.{needs}
 use Rattle.exports.proofs.adze_write_record.Statement.{statement}
@@ -14,7 +14,8 @@ write-record-requires : tie.Need-write-record-requires
 write-record-requires c κs = search needs
 
 packed-requires : tie.Need-packed-requires
-packed-requires c κs = write-small _ _ _ (c .before .before .write-record .ensures .answers)
+packed-requires c κs =
+    write-fits _ _ (λ i. c .before .before .before .before .before .shared-slice-known .given i .fits) _ (sym (c .before .before .write-record .ensures .answers))
 
 same-length : tie.Need-same-length
 same-length c = search needs

@@ -2,7 +2,7 @@
 use mathlib.Core.Path.{sym, ap, subst}
 use native.Mathlib.Omega.{arith}
 use Rattle.exports.specs.Packed.{packedAnswer}
-use Rattle.exports.specs.laws.Small.{Small}
+use Rattle.exports.specs.Unpacked.{AnswerFits}
 use borrow.Author.Needs.{needs}
 use Rattle.exports.proofs.packed.Statement.{statement}
 use Rattle.exports.proofs.packed.Tie as tie
@@ -22,7 +22,7 @@ mul-result : tie.Need-mul-result
 mul-result c = search needs
 
 add-result : tie.Need-add-result
-add-result c = let h = subst Small (c .before .a2 .given .1) (c .before .before .before .pre) in omega arith
+add-result c = let h = subst AnswerFits (c .before .a2 .given .1) (c .before .before .before .pre) .2 in omega arith
 
 returns : tie.Need-returns
 unfolding packedAnswer

@@ -2,7 +2,7 @@
 use mathlib.Core.Path.{sym, ap, subst}
 use native.Mathlib.Omega.{arith}
 use Rattle.exports.specs.Packed.{packedVerdict}
-use Rattle.exports.specs.laws.Small.{Brief}
+use Rattle.exports.specs.Unpacked.{VerdictFits}
 use borrow.Author.Needs.{needs}
 use Rattle.exports.proofs.packed_verdict.Statement.{statement}
 use Rattle.exports.proofs.packed_verdict.Tie as tie
@@ -34,7 +34,7 @@ mul-result-2 : tie.Need-mul-result-2
 mul-result-2 c = search needs
 
 add-result-2 : tie.Need-add-result-2
-add-result-2 c = let h = subst Brief (c .before .v2 .given .1) (c .before .before .before .pre) in omega arith
+add-result-2 c = let h = subst VerdictFits (c .before .v2 .given .1) (c .before .before .before .pre) .2 in omega arith
 
 returns : tie.Need-returns
 unfolding packedVerdict

@@ -1,5 +1,5 @@
--- Each call for C has one outcome, its answer can be unpacked again, and wrong answers are ruled out.
-use Prim.Native.Nat.{ℕ, _+_, _*_, _/_, _%_, _^_, _≤_, _<_}
+-- Each call for C has one outcome, and wrong answers are ruled out.
+use Prim.Native.Nat.{ℕ, _*_, _^_, _≤_, _<_}
 use mathlib.Core.Path.{_≡_, refl, sym, ap, _∙_}
 use mathlib.Core.Bool.{false}
 use mathlib.Core.List.{List, [], _∷_}
@@ -7,7 +7,6 @@ use native.Mathlib.Omega.{arith}
 use lib.ListN.{length, getD}
 use Rattle.number.specs.Number.{numberBytes, numberAt, putAnswer, putBytes}
 use Rattle.number.specs.laws.Sheet.{read-80-00, read-80}
-use Rattle.record.specs.declared.Answer.the-variants.{All, Refused as Unread}
 use Rattle.rows.specs.Rows.{readOutcome, writeOutcome}
 use Rattle.record.specs.Examples.{sheetBytes}
 use Rattle.verdict.specs.laws.OnlyOne.{one-verdict}
@@ -19,17 +18,6 @@ use Rattle.layout.specs.Reading.{rackOf}
 use Rattle.layout.specs.Calls.{madeOutcome, runOutcome}
 use Rattle.layout.specs.laws.OnlyOne.{not-made, not-run, unsound-stays}
 use Rattle.exports.specs.Packed.{packedNumber, packedPut, packedAnswer, packedVerdict, Judged, packedRun}
-
--- ---- unpacking
-
--- bits 0 to 31, and bits 32 to 39
-pub unpacks : (k n : ℕ) → k < 256 → n < 2 ^ 32 → ((2 ^ 32 * k + n) % 2 ^ 32 ≡ n) × ((2 ^ 32 * k + n) / 2 ^ 32 % 256 ≡ k)
-unpacks k n h g = (omega arith, omega arith)
-
--- a count and a refusal are never the same number
-pub count-apart : (n k m : ℕ) → n < 2 ^ 32 → 0 < k → packedAnswer (All n) ≡ packedAnswer (Unread k m) → ⊥
-unfolding packedAnswer
-count-apart n k m h g e = omega arith
 
 -- ---- one outcome
 

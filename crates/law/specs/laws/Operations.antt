@@ -1,6 +1,6 @@
 -- Facts of a record's operations: of any entries, and of those without a fault.
 use mathlib.Core.Path.{_≡_, refl, sym, ap, _∙_}
-use mathlib.Core.Logic.{_≢_, _⊎_, inl, inr, ⊎-elim, _↔_}
+use mathlib.Core.Logic.{_≢_, _⊎_, inl, inr, ⊎-elim}
 use mathlib.Core.Bool.{Bool, true, false, cond}
 use mathlib.Core.List.{List, [], _∷_, _++_, map, List·Memᴰ·head as here, List·Memᴰ·not-nil as no-mem, List·Memᴰ·cases-cons as mem-cons, Memᴰ·cast as mem-cast}
 use mathlib.Core.List.{Memᴰ·append-left as mem-left, Memᴰ·append-right as mem-right, Memᴰ·map as mem-map, Memᴰ·of-map as mem-of-map}
@@ -118,7 +118,7 @@ stops-after es x m t = let h = numbered es .timed x m .stops t in omega (arith, 
 
 -- What the standing says of the operations: a client's unfinished operation is of the kind that it has open, there is one where it has
 -- something open, and never two.
-pub record Tied (st : Standing) (ops : List Op) : Type 0 where
+pub record Matches (st : Standing) (ops : List Op) : Type 0 where
   pub eight : length (st .has) ≡ 8
   pub client : (x : Op) → In x ops → x .client < 8
   pub cell : (x : Op) → In x ops → x .cell < 16
@@ -127,7 +127,7 @@ pub record Tied (st : Standing) (ops : List Op) : Type 0 where
   pub one : (x y : Op) → In x ops → In y ops → x .client ≡ y .client → x .over ≡ false → y .over ≡ false → x ≡ y
 
 -- a client that has nothing open has no unfinished operation
-pub none-open : {st : Standing} {ops : List Op} → Tied st ops → (k : ℕ) → has st k ≡ 0 → (x : Op) → In x ops → x .over ≡ false → x .client ≢ k
+pub none-open : {st : Standing} {ops : List Op} → Matches st ops → (k : ℕ) → has st k ≡ 0 → (x : Op) → In x ops → x .over ≡ false → x .client ≢ k
 none-open {st} h k z x m o e = kind-some (x .write) (sym (h .kind x m o) ∙ (ap (λ (j : ℕ). has st j) e ∙ z))
 
 -- what is unfinished after client k's operation ended was so before, and is another client's
@@ -146,8 +146,8 @@ module _ (st : Standing) (k what : ℕ) where
   pub has-other : (j : ℕ) → j ≢ k → has (put st k what) j ≡ has st j
   has-other j d = getD-set-other (st .has) k j what 0 d
 
-module _ (st : Standing) (n : ℕ) (ops : List Op) (h : Tied st ops) where
-  tied-asks : (k c : ℕ) (w : Bool) (v : ℤ) → MayStep st (asks k c w v) → Tied (put st k (kindOf w)) (ops ++ (asked n k c w v n ∷ []))
+module _ (st : Standing) (n : ℕ) (ops : List Op) (h : Matches st ops) where
+  tied-asks : (k c : ℕ) (w : Bool) (v : ℤ) → MayStep st (asks k c w v) → Matches (put st k (kindOf w)) (ops ++ (asked n k c w v n ∷ []))
   tied-asks k c w v may =
       record {
         eight = length-set (st .has) k (kindOf w) ∙ h .eight;
@@ -177,7 +177,7 @@ module _ (st : Standing) (n : ℕ) (ops : List Op) (h : Tied st ops) where
       two x y e o p (inr q) (inl r) = absurd (free y r p (sym e ∙ ap (λ (z : Op). z .client) q))
       two x y e o p (inr q) (inr r) = q ∙ sym r
 
-  tied-ends : (k : ℕ) (v : ℤ → ℤ) → MayStep st (ends k v) → Tied (put st k 0) (map (ending n k v) ops)
+  tied-ends : (k : ℕ) (v : ℤ → ℤ) → MayStep st (ends k v) → Matches (put st k 0) (map (ending n k v) ops)
   tied-ends k v may =
       record {
         eight = length-set (st .has) k 0 ∙ h .eight;
@@ -197,15 +197,15 @@ module _ (st : Standing) (n : ℕ) (ops : List Op) (h : Tied st ops) where
           let f = h .found j (λ z. s (has-other st k 0 j d ∙ z)) in
           (f .0, (mem-cast (sym (ending-other n k v (f .0) (λ q. d (sym (f .1 .1 .0) ∙ q)))) (mem-map (ending n k v) (f .1 .0)), f .1 .1))
 
-pub tied-step : (st : Standing) (n : ℕ) (s : Step) (ops : List Op) → MayStep st s → Tied st ops → Tied (standingStep st s) (noteStep n s ops)
+pub tied-step : (st : Standing) (n : ℕ) (s : Step) (ops : List Op) → MayStep st s → Matches st ops → Matches (standingStep st s) (noteStep n s ops)
 tied-step st n (asks k c w v) ops may h = tied-asks st n ops h k c w v may
 tied-step st n (ends k v) ops may h = tied-ends st n ops h k v may
 
 -- one entry that may follow keeps the tie
-pub tied-next : (st : Standing) (n : ℕ) (e : Entry) (es : List Entry) (ops : List Op) → Follows st (e ∷ es) → Tied st ops → Tied (standingAfter st e) (note n e ops)
+pub tied-next : (st : Standing) (n : ℕ) (e : Entry) (es : List Entry) (ops : List Op) → Follows st (e ∷ es) → Matches st ops → Matches (standingAfter st e) (note n e ops)
 tied-next st n e es ops f h = rw (standing-step st e, note-step n e ops) (tied-step st n (stepOf e) ops (may-step st e (f .0) (f .1)) h)
 
-pub tied-from : (st : Standing) (n : ℕ) (es : List Entry) (ops : List Op) → Follows st es → Tied st ops → Tied (standingFrom st es) (notes n es ops)
+pub tied-from : (st : Standing) (n : ℕ) (es : List Entry) (ops : List Op) → Follows st es → Matches st ops → Matches (standingFrom st es) (notes n es ops)
 unfolding notes
 tied-from st n [] ops f h = h
 tied-from st n (e ∷ es) ops f h = tied-from (standingAfter st e) (suc n) es (note n e ops) (f .2) (tied-next st n e es ops f h)
@@ -222,7 +222,7 @@ fresh-none (suc (suc (suc (suc (suc (suc zero)))))) = refl
 fresh-none (suc (suc (suc (suc (suc (suc (suc zero))))))) = refl
 fresh-none (suc (suc (suc (suc (suc (suc (suc (suc k)))))))) = refl
 
-pub tied-fresh : Tied fresh []
+pub tied-fresh : Matches fresh []
 tied-fresh =
     record {
       eight = refl;
@@ -234,7 +234,7 @@ tied-fresh =
     }
 
 -- the standing after a record and the record's operations
-pub tied : (es : List Entry) → Follows fresh es → Tied (standing es) (operations es)
+pub tied : (es : List Entry) → Follows fresh es → Matches (standing es) (operations es)
 unfolding operations
 tied es f = tied-from fresh 0 es [] f tied-fresh
 

@@ -23,7 +23,7 @@ use Rattle.law.specs.laws.Steps.{Step, stepOf, clientOf, noteStep, note-
 use Rattle.law.specs.laws.Steps.{MayStep, may-step, stepOn, movedStep, part-step}
 use Rattle.law.specs.Standing.{has}
 use Rattle.law.specs.laws.Steps.Step.{asks, ends}
-use Rattle.law.specs.laws.Operations.{Tied, none-open, still-open, has-same, has-other, tied-next, tied-fresh, fresh-none}
+use Rattle.law.specs.laws.Operations.{Matches, none-open, still-open, has-same, has-other, tied-next, tied-fresh, fresh-none}
 use Rattle.law.specs.CellPart.{renumbered, Rises, CellPart}
 
 -- ---- places
@@ -178,7 +178,7 @@ part-follows c at st part (e ∷ es) h f =
 abbrev AtCell : (ℕ → ℕ) → List Op → Type 0
 AtCell at ops = (x : Op) → In x ops → x .over ≡ false → at (x .client) ≡ x .cell
 
-at-step : (at : ℕ → ℕ) (st : Standing) (n : ℕ) (s : Step) (ops : List Op) → MayStep st s → Tied st ops → AtCell at ops → AtCell (movedStep at s) (noteStep n s ops)
+at-step : (at : ℕ → ℕ) (st : Standing) (n : ℕ) (s : Step) (ops : List Op) → MayStep st s → Matches st ops → AtCell at ops → AtCell (movedStep at s) (noteStep n s ops)
 at-step at st n (asks k cell w v) ops may h a x m o = ⊎-elim old new (in-next ops m)
   where
     old : In x ops → moved at k cell (x .client) ≡ x .cell
@@ -223,7 +223,7 @@ on-step c at p n m (ends k v) ops part e q h =
     through (x ∷ xs) = let a = one x in let b = through xs in cc
 
 part-same : (c : ℕ) (p at : ℕ → ℕ) (st : Standing) (n m : ℕ) (es : List Entry) (ops part : List Op)
-    → Follows st es → Tied st ops → AtCell at ops → ((i : ℕ) → p (m + i) ≡ placeFrom c at n es i) → map (renumbered p) part ≡ ofCell c ops
+    → Follows st es → Matches st ops → AtCell at ops → ((i : ℕ) → p (m + i) ≡ placeFrom c at n es i) → map (renumbered p) part ≡ ofCell c ops
     → map (renumbered p) (notes m (partFrom c at es) part) ≡ ofCell c (notes n es ops)
 unfolding notes partFrom placeFrom
 part-same c p at st n m [] ops part f h a places e = e

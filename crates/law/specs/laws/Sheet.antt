@@ -8,24 +8,24 @@ use Rattle.law.specs.Order.{Lawful}
 use Rattle.law.specs.Part.{partFrom, partOf}
 use Rattle.law.specs.laws.Decide.{by-yes, by-no}
 use Rattle.law.specs.laws.Search.{dec-lawful}
-use Rattle.law.specs.Examples.{reads, writes, told, done}
+use Rattle.law.specs.Examples.{reads, writes, toldBy, doneBy}
 
 -- no entries
 pub empty-lawful : Lawful (operations [])
 unfolding operations notes dec-lawful
 empty-lawful = by-yes (dec-lawful (operations [])) tt
 
--- a write of 5 is done, and then a read is told 5
+-- a write of 5 is doneBy, and then a read is toldBy 5
 abbrev pub good : List Entry
-good = writes 0 2 (pos 5) ∷ done 0 ∷ reads 1 2 ∷ told 1 (pos 5) ∷ []
+good = writes 0 2 (pos 5) ∷ doneBy 0 ∷ reads 1 2 ∷ toldBy 1 (pos 5) ∷ []
 
 pub good-lawful : Lawful (operations good)
 unfolding operations notes note dec-lawful
 good-lawful = by-yes (dec-lawful (operations good)) tt
 
--- a write of 5 is done, and then a read is told 0
+-- a write of 5 is doneBy, and then a read is toldBy 0
 abbrev pub bad : List Entry
-bad = writes 0 2 (pos 5) ∷ done 0 ∷ reads 1 2 ∷ told 1 (pos 0) ∷ []
+bad = writes 0 2 (pos 5) ∷ doneBy 0 ∷ reads 1 2 ∷ toldBy 1 (pos 0) ∷ []
 
 -- the part of cell 2 is not lawful
 pub bad-cell : ¬ Lawful (operations (partOf 2 bad))

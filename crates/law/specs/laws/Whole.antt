@@ -8,7 +8,7 @@ use native.Mathlib.Decide.{decLt}
 use Rattle.record.specs.declared.Entry.{Entry}
 use Rattle.record.specs.Legal.{Legal}
 use Rattle.number.specs.Below.{Bytes}
-use Rattle.record.specs.Record.{entries, recordOf}
+use Rattle.record.specs.Record.{entries, bytesHeld}
 use Rattle.record.specs.laws.Trip.{reading-legal}
 use Rattle.law.specs.Operation.{Op, operations}
 use Rattle.law.specs.Order.{In, Lawful}
@@ -54,13 +54,11 @@ past-cells es h c b =
 -- the sixteen cells are enough
 pub record-locality-16 : (es : List Entry) → Legal es → Lawful (operations es) ↔ ((c : ℕ) → c < 16 → Lawful (operations (partOf c es)))
 record-locality-16 es h =
-    let l = record-locality es h in
-    (λ o c b. l .0 o c, λ f. l .1 (λ c. each f c (decLt c 16)))
-  where
-    each : ((c : ℕ) → c < 16 → Lawful (operations (partOf c es))) → (c : ℕ) → Dec (c < 16) → Lawful (operations (partOf c es))
-    each f c (yes b) = f c b
-    each f c (no b) = past-cells es h c (omega arith)
+    let l = record-locality es h in (
+      λ o c b. l .0 o c,
+      λ f. l .1 (λ c. elim (decLt c 16) [ yes b ↦ f c (omega (arith, b)) | no b ↦ past-cells es h c (omega (arith, b)) ]),
+    )
 
 -- for every record that reads without fault
-pub read-locality : (s : List ℕ) (es : List Entry) → Bytes s → recordOf s ≡ entries es → Lawful (operations es) ↔ ((c : ℕ) → Lawful (operations (partOf c es)))
+pub read-locality : (s : List ℕ) (es : List Entry) → Bytes s → bytesHeld s ≡ entries es → Lawful (operations es) ↔ ((c : ℕ) → Lawful (operations (partOf c es)))
 read-locality s es bytes e = record-locality es (reading-legal s es bytes e)

@@ -13,7 +13,6 @@ use Rattle.rows.specs.Row.{rowOf}
 use Rattle.rows.specs.laws.RowLaws.{row-length}
 use Rattle.rack.specs.declared.Line.{Line}
 use Rattle.stamps.specs.declared.Pair.{Pair}
-use Rattle.method.specs.declared.Party.{Party}
 use Rattle.rack.specs.declared.Rack.{Rack}
 use Rattle.rack.specs.declared.Slot.{Slot}
 use Rattle.stamps.specs.Stamp.{freshPair}
@@ -22,25 +21,22 @@ use Rattle.rack.specs.Sound.{allBelow, soundOf}
 use Rattle.rack.specs.laws.SoundLaws.{Sound, sound-of}
 use Rattle.rack.specs.laws.Tests.{all-of}
 use Rattle.layout.specs.Layout.{wordCount, partyPlace, pairPlace, slotPlace, entryPlace, word, firsts}
-use Rattle.layout.specs.Reading.{byteOf, pairIn, partyIn, slotIn, lineIn, lineKnown, linesIn, countOf, countIn, powerOf, sizesIn, rackOf}
+use Rattle.layout.specs.Reading.{byteOf, pairIn, partyIn, slotIn, lineIn, lineKnown, linesIn, entryCount, countIn, powerOf, sizesIn, rackOf}
 use Rattle.layout.specs.Writing.{pairWords, partyWords, slotWords, headOf, partiesPut, pairWritten, pairsPut, wirePut, entryIn, recordPut, writtenOf}
 use Rattle.layout.specs.laws.Firsts.{firsts-long, firsts-at}
 use Rattle.layout.specs.laws.PlaceLaws.{Stands, sets-stand, first-long, parts-below, parts-stand}
-use Rattle.layout.specs.laws.Trip.{entryFits, line-known, line-again, pair-long, pair-again, heldSmall, slot-long, slot-again, workSmall, plain, party-long, party-again}
+use Rattle.layout.specs.laws.Trip.{entryFits, line-known, line-again, pair-long, pair-again, heldSmall, slot-long, slot-again, workSmall, party-long, party-again}
+use Rattle.layout.specs.Plain.{plainParty}
 
 -- what the words can say again: fifteen bits of power, operation numbers and sets of 16 bits, names and ranks that a byte holds, and entries of clients
 -- below 8 and cells below 16
-pub record Small (r : Rack) : Type 0 where
+pub record Sayable (r : Rack) : Type 0 where
   pub power : r .power < 32768
   pub ops : (i : ℕ) → i < r .sizes .clients → partyAt r i .op < 65536
   pub works : (i : ℕ) → i < r .sizes .clients → workSmall (partyAt r i .work)
   pub ranks : (k x : ℕ) → k < r .sizes .replicas → x < r .sizes .cells → pairAt r k x .stamp .rank < 256
   pub slots : (i : ℕ) → i < 256 → heldSmall (heldAt r i)
   pub entries : (i : ℕ) → i < r .count → entryFits (entryIn (r .lines) i)
-
--- a client whose set of the ask phase is empty holds nothing
-abbrev pub plainParty : Party → Party
-plainParty p = record { stopped = p .stopped; op = p .op; work = plain (p .work) }
 
 -- the rack q has the parts of the rack r
 pub record Again (r q : Rack) : Type 0 where
@@ -157,7 +153,7 @@ module _ (r : Rack) (ws : List ℕ) (s : soundOf r ≡ true) (l : length ws ≡ 
 
 -- ---- and so they are read again
 
-module _ (r : Rack) (ws : List ℕ) (s : soundOf r ≡ true) (f : Small r) (l : length ws ≡ wordCount) where
+module _ (r : Rack) (ws : List ℕ) (s : soundOf r ≡ true) (f : Sayable r) (l : length ws ≡ wordCount) where
   again-power : word (writtenOf r ws) 3 ≡ r .power
   again-power = head-stands r ws s l 3 (omega arith)
 
@@ -176,12 +172,12 @@ module _ (r : Rack) (ws : List ℕ) (s : soundOf r ≡ true) (f : Small r) (l : 
   count-few : r .count ≤ 2048
   count-few = omega (arith, sound-of r s .entries)
 
-  again-counted : countOf (writtenOf r ws) ≡ r .count
-  unfolding countOf
+  again-counted : entryCount (writtenOf r ws) ≡ r .count
+  unfolding entryCount
   again-counted = omega (arith, again-count, count-few)
 
-  rows-known : allBelow (countOf (writtenOf r ws)) (λ i. lineKnown (writtenOf r ws) (entryPlace i)) ≡ true
-  rows-known = all-of (countOf (writtenOf r ws)) (λ i. lineKnown (writtenOf r ws) (entryPlace i))
+  rows-known : allBelow (entryCount (writtenOf r ws)) (λ i. lineKnown (writtenOf r ws) (entryPlace i)) ≡ true
+  rows-known = all-of (entryCount (writtenOf r ws)) (λ i. lineKnown (writtenOf r ws) (entryPlace i))
       (λ i h. (let k : i < r .count = omega (arith, again-counted) in line-known (writtenOf r ws) (entryPlace i) (entryIn (r .lines) i) (f .entries i k) (row-stands r ws s l i k)))
 
   count-again : countIn (writtenOf r ws) ≡ r .count
@@ -193,9 +189,9 @@ module _ (r : Rack) (ws : List ℕ) (s : soundOf r ≡ true) (f : Small r) (l : 
   line-at i h =
       let none : Line = record { entry = ReadAsked (record { 0 = 0 }) (record { 0 = 0 }) } in
       let g : (j : ℕ) → Line = λ j. lineIn (writtenOf r ws) (entryPlace j) in
-      let c : i < countOf (writtenOf r ws) = omega (arith, again-counted) in
-      let a = List·getD-append (firsts (countOf (writtenOf r ws)) g) (drop (countOf (writtenOf r ws)) (replicate 2048 (record { entry = Done (record { 0 = 0 }) }))) none i (omega (arith, firsts-long (countOf (writtenOf r ws)) g)) in
-      ap (λ (x : Line). x .entry) (a ∙ firsts-at (countOf (writtenOf r ws)) i g none c ∙ line-again (writtenOf r ws) (entryPlace i) (entryIn (r .lines) i) (f .entries i h) (row-stands r ws s l i h))
+      let c : i < entryCount (writtenOf r ws) = omega (arith, again-counted) in
+      let a = List·getD-append (firsts (entryCount (writtenOf r ws)) g) (drop (entryCount (writtenOf r ws)) (replicate 2048 (record { entry = Done (record { 0 = 0 }) }))) none i (omega (arith, firsts-long (entryCount (writtenOf r ws)) g)) in
+      ap (λ (x : Line). x .entry) (a ∙ firsts-at (entryCount (writtenOf r ws)) i g none c ∙ line-again (writtenOf r ws) (entryPlace i) (entryIn (r .lines) i) (f .entries i h) (row-stands r ws s l i h))
 
   party-at : (i : ℕ) → i < r .sizes .clients → partyAt (rackOf (writtenOf r ws)) i ≡ plainParty (partyAt r i)
   unfolding rackOf

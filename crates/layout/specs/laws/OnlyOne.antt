@@ -8,40 +8,40 @@ use lib.ListN.{length}
 use borrow.Author.Tests.{eq-eqb, ne-eqb, le-ltb}
 use Rattle.rack.specs.Sound.{sizesFit, soundOf}
 use Rattle.rack.specs.Run.{madeOf, runOf}
-use Rattle.layout.specs.declared.Answer.{Answer}
+use Rattle.layout.specs.declared.WordsAnswer.{WordsAnswer}
 use Rattle.layout.specs.Layout.{wordCount}
 use Rattle.layout.specs.Reading.{rackOf}
 use Rattle.layout.specs.Calls.{answerOf, makes, madeOutcome, leaves, runOutcome}
 
 -- ---- one outcome
 
-pub one-made : (x y z : ℕ) (ws : List ℕ) (a a′ : Answer) (e e′ : List ℕ) → (a ≡ madeOutcome x y z ws .answer) × (e ≡ madeOutcome x y z ws .lent)
+pub one-made : (x y z : ℕ) (ws : List ℕ) (a a′ : WordsAnswer) (e e′ : List ℕ) → (a ≡ madeOutcome x y z ws .answer) × (e ≡ madeOutcome x y z ws .lent)
     → (a′ ≡ madeOutcome x y z ws .answer) × (e′ ≡ madeOutcome x y z ws .lent) → (a ≡ a′) × (e ≡ e′)
 one-made x y z ws a a′ e e′ p q = (p .0 ∙ sym (q .0), p .1 ∙ sym (q .1))
 
-pub one-run : (ws : List ℕ) (n : ℕ) (es : List ℕ) (a a′ : Answer) (e e′ : List ℕ) → (a ≡ runOutcome ws n es .answer) × (e ≡ runOutcome ws n es .lent)
+pub one-run : (ws : List ℕ) (n : ℕ) (es : List ℕ) (a a′ : WordsAnswer) (e e′ : List ℕ) → (a ≡ runOutcome ws n es .answer) × (e ≡ runOutcome ws n es .lent)
     → (a′ ≡ runOutcome ws n es .answer) × (e′ ≡ runOutcome ws n es .lent) → (a ≡ a′) × (e ≡ e′)
 one-run ws n es a a′ e e′ p q = (p .0 ∙ sym (q .0), p .1 ∙ sym (q .1))
 
 -- ---- wrong answers
 
 -- sizes 16, 8, 16 are refused, and 15, 8, 16 are not
-pub not-made : (ws : List ℕ) (a : Answer) → length ws ≡ wordCount → a ≡ madeOutcome 16 8 16 ws .answer → a .refusal ≡ 0 → ⊥
+pub not-made : (ws : List ℕ) (a : WordsAnswer) → length ws ≡ wordCount → a ≡ madeOutcome 16 8 16 ws .answer → a .refusal ≡ 0 → ⊥
 unfolding madeOutcome makes madeOf sizesFit
-not-made ws a h p q = let e : a ≡ answerOf 0 1 = p ∙ rw (eq-eqb (length ws) wordCount h) in let r = ap (λ (k : Answer). k .refusal) e in omega arith
+not-made ws a h p q = let e : a ≡ answerOf 0 1 = p ∙ rw (eq-eqb (length ws) wordCount h) in let r = ap (λ (k : WordsAnswer). k .refusal) e in omega arith
 
-pub not-refused : (ws : List ℕ) (a : Answer) → length ws ≡ wordCount → a ≡ madeOutcome 15 8 16 ws .answer → a .refusal ≡ 1 → ⊥
+pub not-refused : (ws : List ℕ) (a : WordsAnswer) → length ws ≡ wordCount → a ≡ madeOutcome 15 8 16 ws .answer → a .refusal ≡ 1 → ⊥
 unfolding madeOutcome makes madeOf sizesFit
-not-refused ws a h p q = let e : a ≡ answerOf 0 0 = p ∙ rw (eq-eqb (length ws) wordCount h) in let r = ap (λ (k : Answer). k .refusal) e in omega arith
+not-refused ws a h p q = let e : a ≡ answerOf 0 0 = p ∙ rw (eq-eqb (length ws) wordCount h) in let r = ap (λ (k : WordsAnswer). k .refusal) e in omega arith
 
 -- with other lengths nothing is done, and with allowance 0 nothing is refused
-pub not-run : (ws : List ℕ) (n : ℕ) (es : List ℕ) (a : Answer) → (length ws ≡ wordCount → ⊥) → a ≡ runOutcome ws n es .answer → a .refusal ≡ 0 → ⊥
+pub not-run : (ws : List ℕ) (n : ℕ) (es : List ℕ) (a : WordsAnswer) → (length ws ≡ wordCount → ⊥) → a ≡ runOutcome ws n es .answer → a .refusal ≡ 0 → ⊥
 unfolding runOutcome
-not-run ws n es a h p q = let e : a ≡ answerOf 0 20 = p ∙ rw (ne-eqb (length ws) wordCount h) in let r = ap (λ (k : Answer). k .refusal) e in omega arith
+not-run ws n es a h p q = let e : a ≡ answerOf 0 20 = p ∙ rw (ne-eqb (length ws) wordCount h) in let r = ap (λ (k : WordsAnswer). k .refusal) e in omega arith
 
-pub not-stopped : (ws : List ℕ) (es : List ℕ) (a : Answer) → length ws ≡ wordCount → a ≡ runOutcome ws 0 es .answer → a .refusal ≡ 2 → ⊥
+pub not-stopped : (ws : List ℕ) (es : List ℕ) (a : WordsAnswer) → length ws ≡ wordCount → a ≡ runOutcome ws 0 es .answer → a .refusal ≡ 2 → ⊥
 unfolding runOutcome leaves runOf
-not-stopped ws es a h p q = let e : a ≡ answerOf 0 0 = p ∙ rw (eq-eqb (length ws) wordCount h) in let r = ap (λ (k : Answer). k .refusal) e in omega arith
+not-stopped ws es a h p q = let e : a ≡ answerOf 0 0 = p ∙ rw (eq-eqb (length ws) wordCount h) in let r = ap (λ (k : WordsAnswer). k .refusal) e in omega arith
 
 -- words of an unsound rack are refused 2 as soon as an event is tried, and stay as they were
 pub unsound-stays : (ws : List ℕ) (n : ℕ) (es : List ℕ) → length ws ≡ wordCount → soundOf (rackOf ws) ≡ false → (n ≡ 0 → ⊥) → 4 ≤ length es

@@ -15,7 +15,7 @@ use Rattle.rack.specs.laws.SoundLaws.{Sound, sound-of}
 use Rattle.method.specs.laws.Tests.{never}
 use Rattle.rack.specs.laws.Tests.{all-at}
 use Rattle.layout.specs.Layout.{partyPlace, slotPlace, entryPlace, word}
-use Rattle.layout.specs.Reading.{byteOf, partyIn, messageKnown, heldOf, slotIn, lineKnown, countOf, countIn, sizesIn, rackOf}
+use Rattle.layout.specs.Reading.{byteOf, partyIn, messageKnown, heldOf, slotIn, lineKnown, entryCount, countIn, sizesIn, rackOf}
 use Rattle.layout.specs.laws.Firsts.{firsts-at}
 use Rattle.layout.specs.State.{State, partyKnownAt, slotKnownAt}
 
@@ -73,16 +73,16 @@ module _ (ws : List ℕ) (s : soundOf (rackOf ws) ≡ true) where
   few = let h : countIn ws + owed (rackOf ws) ≤ 2048 = sound .entries in omega arith
 
   known-count : (word ws 4 ≤ 2048) × ((i : ℕ) → i < word ws 4 → lineKnown ws (entryPlace i) ≡ true)
-  unfolding countIn countOf
-  known-count = go (ltb 2048 (word ws 4)) refl (allBelow (countOf ws) (λ i. lineKnown ws (entryPlace i))) refl few
+  unfolding countIn entryCount
+  known-count = go (ltb 2048 (word ws 4)) refl (allBelow (entryCount ws) (λ i. lineKnown ws (entryPlace i))) refl few
     where
-      go : (a : Bool) → ltb 2048 (word ws 4) ≡ a → (b : Bool) → allBelow (countOf ws) (λ i. lineKnown ws (entryPlace i)) ≡ b
+      go : (a : Bool) → ltb 2048 (word ws 4) ≡ a → (b : Bool) → allBelow (entryCount ws) (λ i. lineKnown ws (entryPlace i)) ≡ b
           → cond (a || not b) 2049 (word ws 4) ≤ 2048 → (word ws 4 ≤ 2048) × ((i : ℕ) → i < word ws 4 → lineKnown ws (entryPlace i) ≡ true)
       go true e b f h = absurd (omega arith)
       go false e false f h = absurd (omega arith)
       go false e true f h =
           let m = ltb-false 2048 (word ws 4) e in
-          (omega (arith, m), λ i l. all-at (countOf ws) (λ j. lineKnown ws (entryPlace j)) f i (omega (arith, m)))
+          (omega (arith, m), λ i l. all-at (entryCount ws) (λ j. lineKnown ws (entryPlace j)) f i (omega (arith, m)))
 
   pub state-of : State ws
   state-of = record { power = known-power; count = known-count .0; entries = known-count .1; parties = known-party; slots = known-slot }

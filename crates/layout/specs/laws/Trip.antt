@@ -18,8 +18,8 @@ use Rattle.stamps.specs.declared.Pair.{Pair}
 use Rattle.method.specs.declared.Body.{Body}
 use Rattle.method.specs.declared.Body.the-variants.{Ask, Tell, Keep, Kept}
 use Rattle.method.specs.declared.Message.{Message}
-use Rattle.method.specs.declared.Held.{Held}
-use Rattle.method.specs.declared.Held.the-variants.{Empty, Full}
+use Rattle.method.specs.declared.InSlot.{InSlot}
+use Rattle.method.specs.declared.InSlot.the-variants.{Empty, Full}
 use Rattle.method.specs.declared.Goal.{Goal}
 use Rattle.method.specs.declared.Goal.the-variants.{Read, Write}
 use Rattle.method.specs.declared.Work.{Work}
@@ -30,6 +30,7 @@ use Rattle.layout.specs.Layout.{word}
 use Rattle.layout.specs.Reading.{byteOf, setOf, pairIn, goalOf, workOf, workIn, partyKnown, partyIn, bodyOf, messageKnown, fullIn, heldOf, entryKnown, lineKnown, lineIn}
 use Rattle.layout.specs.Writing.{pairWords, noPair, openWords, toldWords, workWords, flag, partyWords, bodyKind, bodyWords, slotWords}
 use Rattle.layout.specs.laws.PlaceLaws.{Stands}
+use Rattle.layout.specs.Plain.{plain}
 
 -- a word of a part
 at-of : (ws : List ℕ) (at n o : ℕ) (xs : List ℕ) → Stands ws at xs → length xs ≡ n → o < n → word ws (at + o) ≡ getD xs o 0
@@ -114,7 +115,7 @@ pub record MessageSmall (m : Message) : Type 0 where
   pub body : bodySmall (m .body)
 
 -- so does the message of a slot
-abbrev pub heldSmall : Held → Type 0
+abbrev pub heldSmall : InSlot → Type 0
 heldSmall Empty = Unit {0}
 heldSmall (Full m) = MessageSmall m
 
@@ -125,7 +126,7 @@ body-long (Tell p) = refl
 body-long (Keep p) = refl
 body-long Kept = refl
 
-pub slot-long : (x : Held) → length (slotWords x) ≡ 9
+pub slot-long : (x : InSlot) → length (slotWords x) ≡ 9
 unfolding slotWords
 slot-long Empty = refl
 slot-long (Full m) = rw (body-long (m .body))
@@ -157,7 +158,7 @@ full-again ws at m h s =
     let rest : Stands ws (at + 6) (bodyWords (m .body)) = λ o l. (let e : at + 6 + o ≡ at + suc (suc (suc (suc (suc (suc o))))) = omega arith in ap (word ws) e ∙ s (suc (suc (suc (suc (suc (suc o)))))) (omega arith)) in
     rw (mark, kind, client, replica, cell, op, lt-ltb (bodyKind (m .body)) 4 (kind-below (m .body)), lt-ltb (m .op) 65536 (h .op), byte-same (m .client .0) (h .client), byte-same (m .replica .0) (h .replica), byte-same (m .cell .0) (h .cell), body-again ws (at + 6) (m .body) (h .body) rest)
 
-pub slot-again : (ws : List ℕ) (at : ℕ) (x : Held) → heldSmall x → Stands ws at (slotWords x) → heldOf ws at ≡ x
+pub slot-again : (ws : List ℕ) (at : ℕ) (x : InSlot) → heldSmall x → Stands ws at (slotWords x) → heldOf ws at ≡ x
 unfolding slotWords heldOf
 slot-again ws at Empty h s =
     let z : at ≡ at + 0 = omega arith in
@@ -172,12 +173,6 @@ abbrev pub workSmall : Work → Type 0
 workSmall Idle = Unit {0}
 workSmall (Asking cell goal set held) = (cell .0 < 256) × ((set < 65536) × (held .stamp .rank < 256))
 workSmall (Keeping cell goal set held) = (cell .0 < 256) × ((set < 65536) × (held .stamp .rank < 256))
-
--- nothing is held while the set of the ask phase is empty
-abbrev pub plain : Work → Work
-plain Idle = Idle
-plain (Asking cell goal set held) = Asking cell goal set (cond (eqb set 0) freshPair held)
-plain (Keeping cell goal set held) = Keeping cell goal set held
 
 nothing-again : (ws : List ℕ) (at : ℕ) → Stands ws at noPair → pairIn ws at ≡ freshPair
 unfolding pairWords alternatingOf

@@ -19,8 +19,8 @@ use Rattle.stamps.specs.Stamp.{freshPair}
 use Rattle.method.specs.declared.Body.{Body}
 use Rattle.method.specs.declared.Body.the-variants.{Ask, Tell, Keep, Kept}
 use Rattle.method.specs.declared.Message.{Message}
-use Rattle.method.specs.declared.Held.{Held}
-use Rattle.method.specs.declared.Held.the-variants.{Empty, Full}
+use Rattle.method.specs.declared.InSlot.{InSlot}
+use Rattle.method.specs.declared.InSlot.the-variants.{Empty, Full}
 use Rattle.method.specs.declared.Goal.{Goal}
 use Rattle.method.specs.declared.Goal.the-variants.{Read, Write}
 use Rattle.method.specs.declared.Work.{Work}
@@ -32,22 +32,20 @@ use Rattle.method.specs.declared.Event.the-variants.{StartRead, StartWrite, Del
 use Rattle.method.specs.declared.Note.{Note}
 use Rattle.method.specs.declared.Note.the-variants.{Nothing, Asked, Ended}
 use Rattle.method.specs.declared.Plan.{Plan}
-use Rattle.method.specs.declared.Outcome.{Outcome}
-use Rattle.method.specs.declared.Outcome.the-variants.{No, Go}
+use Rattle.method.specs.declared.Decision.{Decision}
+use Rattle.method.specs.declared.Decision.the-variants.{No, Go}
 use Rattle.method.specs.Plan.{startIn, startOf, askOf, keepOf, current, keepsOf, phaseEnds, holds, tellCounts, tellIn, tellOf, keptIn, keptOf, deliverIn, deliverOf, copyOf}
 use Rattle.method.specs.Plan.{resendIn, resendOf, stopOf, powered, offOf, onOf, ofSlot, planOf}
 use Rattle.method.specs.About.{clientOf}
 use Rattle.rack.specs.declared.Sizes.{Sizes}
 use Rattle.rack.specs.declared.Rack.{Rack}
-use Rattle.rack.specs.declared.Ran.{Ran}
 use Rattle.rack.specs.Places.{idle, partyAt, heldAt, roomOf, sentOf}
-use Rattle.rack.specs.Sound.{pairFits, workFits, owes, owedBy, owedBelow, owed, soundOf}
+use Rattle.rack.specs.Sound.{pairFits, workFits, owes, owedBy, owedIn, owed, soundOf}
 use Rattle.rack.specs.laws.SoundLaws.{Sound, sound-of, of-sound}
 use Rattle.rack.specs.Run.{eventOf, inRack, slotOf, placeIn, noted, freed, checked, decided, addressed, cleared, recorded, entriesIn, appliedOf, ranOf, turn, runFrom, runOf}
 use Rattle.runs.specs.laws.Steps.{sound-from}
-use Rattle.layout.specs.laws.Trip.{plain}
-use Rattle.layout.specs.laws.Again.{plainParty}
-use Rattle.lent.specs.Plain.{plainRack}
+use Rattle.layout.specs.Plain.{plain, plainParty}
+use Rattle.lent.specs.Plain.{plainRack, plainRan}
 use Rattle.lent.specs.laws.Whole.{plain-twice}
 
 -- ---- plans
@@ -57,12 +55,12 @@ abbrev plainPlan : Plan → Plan
 plainPlan p = record { party = plainParty (p .party); pair = p .pair; power = p .power; clear = p .clear; note = p .note; message = p .message; to = p .to }
 
 -- an outcome, and so its plan if it has one
-abbrev plainOutcome : Outcome → Outcome
+abbrev plainOutcome : Decision → Decision
 plainOutcome (No k) = No k
 plainOutcome (Go p) = Go (plainPlan p)
 
 -- a branch: both ways
-both : (t : Bool) (a b c d : Outcome) → plainOutcome a ≡ plainOutcome c → plainOutcome b ≡ plainOutcome d → plainOutcome (cond t a b) ≡ plainOutcome (cond t c d)
+both : (t : Bool) (a b c d : Decision) → plainOutcome a ≡ plainOutcome c → plainOutcome b ≡ plainOutcome d → plainOutcome (cond t a b) ≡ plainOutcome (cond t c d)
 both true a b c d p q = p
 both false a b c d p q = q
 
@@ -94,7 +92,7 @@ module _ (replicas power : ℕ) (pair : Pair) (stopped : Bool) (op : ℕ) (cell 
   unfolding startOf startIn
   start-alike client x k entry = refl
 
-  told-nothing : (held : Held) (e : Event) → plainOutcome (planOf one held e) ≡ plainOutcome (planOf other held e)
+  told-nothing : (held : InSlot) (e : Event) → plainOutcome (planOf one held e) ≡ plainOutcome (planOf other held e)
   unfolding planOf ofSlot deliverOf copyOf resendOf resendIn stopOf powered offOf onOf
   told-nothing held (StartRead client x) = start-alike client x _ _
   told-nothing held (StartWrite client x v) = start-alike client x _ _
@@ -111,18 +109,18 @@ module _ (replicas power : ℕ) (pair : Pair) (stopped : Bool) (op : ℕ) (cell 
   told-nothing held Unknown = refl
 
 -- what is planned where the client is at the work w
-abbrev plannedAt : ℕ → ℕ → Pair → Bool → ℕ → Held → Event → Work → Outcome
+abbrev plannedAt : ℕ → ℕ → Pair → Bool → ℕ → InSlot → Event → Work → Decision
 plannedAt replicas power pair stopped op held e w =
     planOf (record { replicas = replicas; power = power; party = record { stopped = stopped; op = op; work = w }; pair = pair }) held e
 
 -- a client that was told nothing, or something
-plan-plain : (replicas power : ℕ) (pair : Pair) (stopped : Bool) (op : ℕ) (held : Held) (e : Event) (w : Work)
+plan-plain : (replicas power : ℕ) (pair : Pair) (stopped : Bool) (op : ℕ) (held : InSlot) (e : Event) (w : Work)
     → plainOutcome (plannedAt replicas power pair stopped op held e (plain w)) ≡ plainOutcome (plannedAt replicas power pair stopped op held e w)
 plan-plain replicas power pair stopped op held e Idle = refl
 plan-plain replicas power pair stopped op held e (Keeping cell goal set q) = refl
 plan-plain replicas power pair stopped op held e (Asking cell goal set q) = go (eqb set 0) refl
   where
-    at : ℕ → Pair → Outcome
+    at : ℕ → Pair → Decision
     at n p = plainOutcome (plannedAt replicas power pair stopped op held e (Asking cell goal n p))
 
     go : (t : Bool) → eqb set 0 ≡ t → at set (cond t freshPair q) ≡ at set q
@@ -146,8 +144,8 @@ owed-plain p = go (p .work)
 party-plain : (ps : List Party) (i : ℕ) → getD (map plainParty ps) i idle ≡ plainParty (getD ps i idle)
 party-plain ps i = List·getD-map plainParty ps i idle
 
-below-plain : (n : ℕ) (r : Rack) → owedBelow n (plainRack r) ≡ owedBelow n r
-unfolding owedBelow plainRack
+below-plain : (n : ℕ) (r : Rack) → owedIn n (plainRack r .parties) ≡ owedIn n (r .parties)
+unfolding owedIn plainRack
 below-plain zero r = refl
 below-plain (suc n) r = ap₂ (λ (a b : ℕ). a + b) (below-plain n r) (ap owedBy (party-plain (r .parties) n) ∙ owed-plain (partyAt r n))
 
@@ -199,17 +197,17 @@ sound-alike r q e h = plain-sound r (ap soundOf e ∙ sound-plain q h)
 
 -- ---- an event
 
-cond-plain : (t : Bool) (k : ℕ) (o : Outcome) → plainOutcome (cond t (No k) o) ≡ cond t (No k) (plainOutcome o)
+cond-plain : (t : Bool) (k : ℕ) (o : Decision) → plainOutcome (cond t (No k) o) ≡ cond t (No k) (plainOutcome o)
 cond-plain true k o = refl
 cond-plain false k o = refl
 
-noted-plain : (n : Note) (taken : ℕ) (o : Outcome) → plainOutcome (noted n taken o) ≡ noted n taken (plainOutcome o)
+noted-plain : (n : Note) (taken : ℕ) (o : Decision) → plainOutcome (noted n taken o) ≡ noted n taken (plainOutcome o)
 unfolding noted
 noted-plain Nothing taken o = refl
 noted-plain (Asked e) taken o = cond-plain (ltb entryLimit (taken + 2)) 11 o
 noted-plain (Ended e) taken o = refl
 
-checked-plain : (o : Outcome) (taken room : ℕ) → plainOutcome (checked o taken room) ≡ checked (plainOutcome o) taken room
+checked-plain : (o : Decision) (taken room : ℕ) → plainOutcome (checked o taken room) ≡ checked (plainOutcome o) taken room
 unfolding checked
 checked-plain (No k) taken room = refl
 checked-plain (Go p) taken room =
@@ -217,7 +215,7 @@ checked-plain (Go p) taken room =
     noted-plain (p .note) taken (cond t (No 13) (Go p)) ∙ ap (noted (p .note) taken) (cond-plain t 13 (Go p))
 
 -- the plan for an event on a rack, by what it looks at of client and answers owed
-abbrev decidedBy : Rack → Event → Party → ℕ → Outcome
+abbrev decidedBy : Rack → Event → Party → ℕ → Decision
 decidedBy r e party owes =
     let held = heldAt r (slotOf e) in
     cond (inRack (r .sizes) e)
@@ -233,7 +231,7 @@ decided-plain r e =
     ap₂ (λ (x : Party) (n : ℕ). plainOutcome (decidedBy r e x n)) (party-plain (r .parties) k) (all-owed r)
     ∙ both (inRack (r .sizes) e) _ _ _ _
     (checked-plain _ (r .count + owed r) (roomOf (r .wire))
-    ∙ ap (λ (o : Outcome). checked o (r .count + owed r) (roomOf (r .wire)))
+    ∙ ap (λ (o : Decision). checked o (r .count + owed r) (roomOf (r .wire)))
     (plan-plain (r .sizes .replicas) (r .power) (getD (r .pairs) (placeIn (heldAt r (slotOf e))) freshPair) (p .stopped) (p .op) (heldAt r (slotOf e)) e (p .work))
     ∙ sym (checked-plain _ (r .count + owed r) (roomOf (r .wire))))
     refl
@@ -274,10 +272,6 @@ applied-alike r q e p o h g =
 
 -- ---- a run
 
--- what a run gives, and what clients hold that were told something
-abbrev pub plainRan : Ran → Ran
-plainRan q = ranOf (q .done) (q .refusal) (plainRack (q .rack))
-
 from-alike : (done : ℕ) (r q : Rack) (n : ℕ) (es : List ℕ) → plainRack r ≡ plainRack q → plainRan (runFrom done r n es) ≡ plainRan (runFrom done q n es)
 unfolding runFrom turn
 from-alike done r q zero es h = ap (ranOf done 0) h
@@ -288,7 +282,7 @@ from-alike done r q (suc n) (k ∷ a ∷ b ∷ []) h = ap (ranOf done 0) h
 from-alike done r q (suc n) (k ∷ a ∷ b ∷ v ∷ es) h =
     go (decided r (eventOf k a b v)) (decided q (eventOf k a b v)) (decided-alike r q (eventOf k a b v) h) (λ x y. from-alike (done + 1) x y n es)
   where
-    go : (o u : Outcome) → plainOutcome o ≡ plainOutcome u
+    go : (o u : Decision) → plainOutcome o ≡ plainOutcome u
         → ((x y : Rack) → plainRack x ≡ plainRack y → plainRan (runFrom (done + 1) x n es) ≡ plainRan (runFrom (done + 1) y n es))
         → plainRan (turn done r (eventOf k a b v) o (λ x. runFrom (done + 1) x n es)) ≡ plainRan (turn done q (eventOf k a b v) u (λ x. runFrom (done + 1) x n es))
     go (No x) (No y) e ih = let z : x ≡ y = cc in ap₂ (ranOf done) z h

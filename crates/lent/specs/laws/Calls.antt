@@ -7,7 +7,7 @@ use lib.Dec.{eqb}
 use lib.ListN.{length, getD, replicate, length-replicate}
 use lib.Seq.{length-sets}
 use borrow.Author.Tests.{eqb-true}
-use Rattle.record.specs.Below.{Words}
+use Rattle.number.specs.Below.{Words}
 use Rattle.law.specs.Operation.{operations}
 use Rattle.law.specs.Order.{Lawful}
 use Rattle.rows.specs.Row.{rowOf}

@@ -5,7 +5,7 @@ use mathlib.Core.Bool.{Bool, true, false, cond}
 use mathlib.Core.List.{List, _++_, append-assoc}
 use lib.Dec.{eqb}
 use lib.ListN.{length}
-use Rattle.record.specs.Below.{Bytes}
+use Rattle.number.specs.Below.{Bytes}
 use Rattle.text.specs.Text.{field, refusedWord, lineFeed}
 use Rattle.rack.specs.declared.Rack.{Rack}
 use Rattle.rack.specs.declared.Made.{Made}

@@ -23,8 +23,9 @@ use Rattle.layout.specs.Layout.{wordCount, partyPlace, pairPlace, slotPlace, en
 use Rattle.layout.specs.Writing.{pairWords, noPair, toldWords, workWords, openWords, partyWords, slotWords, putFirsts, headOf, partiesPut, pairWritten, pairsPut, wirePut, entryIn}
 use Rattle.layout.specs.Writing.{recordPut, writtenOf}
 use Rattle.layout.specs.laws.PlaceLaws.{Stands}
-use Rattle.layout.specs.laws.Trip.{plain, party-long, pair-long, slot-long}
-use Rattle.layout.specs.laws.Again.{plainParty, head-stands, party-stands, pair-stands, slot-stands, row-stands}
+use Rattle.layout.specs.Plain.{plain, plainParty}
+use Rattle.layout.specs.laws.Trip.{party-long, pair-long, slot-long}
+use Rattle.layout.specs.laws.Again.{head-stands, party-stands, pair-stands, slot-stands, row-stands}
 use Rattle.lent.specs.Plain.{plainRack}
 use Rattle.lent.specs.laws.Away.{Away, away-stays}
 use Rattle.lent.specs.laws.Calls.{written-long}

@@ -17,8 +17,8 @@ use Rattle.stamps.specs.Stamp.{stampLess, raised}
 use Rattle.method.specs.declared.Body.{Body}
 use Rattle.method.specs.declared.Body.the-variants.{Ask, Tell, Keep, Kept}
 use Rattle.method.specs.declared.Message.{Message}
-use Rattle.method.specs.declared.Held.{Held}
-use Rattle.method.specs.declared.Held.the-variants.{Empty, Full}
+use Rattle.method.specs.declared.InSlot.{InSlot}
+use Rattle.method.specs.declared.InSlot.the-variants.{Empty, Full}
 use Rattle.method.specs.declared.Goal.{Goal}
 use Rattle.method.specs.declared.Goal.the-variants.{Read, Write}
 use Rattle.method.specs.declared.Work.{Work}
@@ -30,8 +30,8 @@ use Rattle.method.specs.declared.Event.the-variants.{StartRead, StartWrite, Del
 use Rattle.method.specs.declared.Note.{Note}
 use Rattle.method.specs.declared.Note.the-variants.{Nothing, Asked, Ended}
 use Rattle.method.specs.declared.Plan.{Plan}
-use Rattle.method.specs.declared.Outcome.{Outcome}
-use Rattle.method.specs.declared.Outcome.the-variants.{No, Go}
+use Rattle.method.specs.declared.Decision.{Decision}
+use Rattle.method.specs.declared.Decision.the-variants.{No, Go}
 use Rattle.method.specs.Plan.{usedUp, answered, started, startIn, startOf, askOf, keepOf, current, keepsOf, written, phaseEnds, holds, tellCounts, tellIn, tellOf, lastEntry}
 use Rattle.method.specs.Plan.{keptCounts, keptIn, keptOf, deliverIn, deliverOf, copyOf, resendIn, resendOf, stopOf, powered, offOf, onOf, ofSlot, planOf}
 use Rattle.method.specs.laws.Tests.{never, and-left, and-right}
@@ -39,7 +39,8 @@ use Rattle.rack.specs.declared.Sizes.{Sizes}
 use Rattle.rack.specs.Sound.{pairFits, bodyFits, heldFits}
 use Rattle.rack.specs.Run.{inRack}
 use Rattle.rack.specs.laws.SoundLaws.{Sized, Named, named}
-use Rattle.layout.specs.laws.Trip.{entryFits, plain}
+use Rattle.layout.specs.laws.Trip.{entryFits}
+use Rattle.layout.specs.Plain.{plain}
 
 -- ---- what words can say
 
@@ -50,7 +51,7 @@ RankSmall (Asking cell goal set held) = held .stamp .rank < 256
 RankSmall (Keeping cell goal set held) = held .stamp .rank < 256
 
 -- the operation number of the message that a slot holds, if any, is at most 65,535
-abbrev pub HeldOp : Held → Type 0
+abbrev pub HeldOp : InSlot → Type 0
 HeldOp Empty = Unit {0}
 HeldOp (Full m) = m .op < 65536
 
@@ -70,12 +71,12 @@ pub record PlanStays (before : Work) (p : Plan) : Type 0 where
   pub note : NoteFits (p .note)
 
 -- of a refusal nothing has to hold
-abbrev pub OutcomeStays : Work → Outcome → Type 0
+abbrev pub OutcomeStays : Work → Decision → Type 0
 OutcomeStays before (No k) = Unit {0}
 OutcomeStays before (Go p) = PlanStays before p
 
 -- a branch: both ways
-either : (w : Work) (t : Bool) (a b : Outcome) → OutcomeStays w a → (t ≡ false → OutcomeStays w b) → OutcomeStays w (cond t a b)
+either : (w : Work) (t : Bool) (a b : Decision) → OutcomeStays w a → (t ≡ false → OutcomeStays w b) → OutcomeStays w (cond t a b)
 either w true a b p q = p
 either w false a b p q = q refl
 
@@ -247,7 +248,7 @@ module _ (z : Sizes) (n : Sized z) (power : ℕ) (on : power < 32768) (party : P
 
   -- ---- every event
 
-  pub plan-stays : (held : Held) → heldFits z held ≡ true → HeldOp held → (e : Event) → inRack z e ≡ true → OutcomeStays before (planOf seen held e)
+  pub plan-stays : (held : InSlot) → heldFits z held ≡ true → HeldOp held → (e : Event) → inRack z e ≡ true → OutcomeStays before (planOf seen held e)
   unfolding planOf ofSlot inRack heldFits deliverOf
   plan-stays held hh ho (StartRead client cell) i =
       let a : client .0 < z .clients = ltb-true _ _ (and-left (ltb (client .0) (z .clients)) (ltb (cell .0) (z .cells)) i) in

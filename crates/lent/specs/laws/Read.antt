@@ -16,7 +16,7 @@ use Rattle.rows.specs.Row.{entryOf}
 use Rattle.quorum.specs.Sets.{setBits, everyReplica}
 use Rattle.quorum.specs.laws.SetLaws.{every-below}
 use Rattle.stamps.specs.Stamp.{freshPair}
-use Rattle.method.specs.declared.Held.the-variants.{Empty}
+use Rattle.method.specs.declared.InSlot.the-variants.{Empty}
 use Rattle.method.specs.declared.Goal.{Goal}
 use Rattle.method.specs.declared.Work.the-variants.{Idle, Asking, Keeping}
 use Rattle.method.specs.declared.Party.{Party}
@@ -31,7 +31,7 @@ use Rattle.rack.specs.Run.{freshRack, madeOf}
 use Rattle.rack.specs.laws.Tests.{all-of}
 use Rattle.layout.specs.Layout.{partyPlace, pairPlace, slotPlace, entryPlace, word, firsts}
 use Rattle.layout.specs.Reading.{byteOf, setOf, pairIn, goalOf, workOf, workIn, partyKnown, strayParty, partyIn, messageKnown, strayHeld, fullIn, heldOf, slotIn, entryKnown}
-use Rattle.layout.specs.Reading.{lineKnown, lineIn, linesIn, countOf, countIn, powerOf, rackOf}
+use Rattle.layout.specs.Reading.{lineKnown, lineIn, linesIn, entryCount, countIn, powerOf, rackOf}
 use Rattle.layout.specs.Writing.{entryIn}
 use Rattle.layout.specs.laws.Firsts.{firsts-long, firsts-at}
 use Rattle.layout.specs.State.{State}
@@ -148,25 +148,25 @@ module _ (ws : List ℕ) (s : soundOf (rackOf ws) ≡ true) where
   state = state-of ws s
 
   pub count-is : countIn ws ≡ word ws 4
-  unfolding countIn countOf
+  unfolding countIn entryCount
   count-is =
-      let k : allBelow (countOf ws) (λ i. lineKnown ws (entryPlace i)) ≡ true = all-of (countOf ws) (λ i. lineKnown ws (entryPlace i)) (λ i l. state .entries i (omega arith)) in
+      let k : allBelow (entryCount ws) (λ i. lineKnown ws (entryPlace i)) ≡ true = all-of (entryCount ws) (λ i. lineKnown ws (entryPlace i)) (λ i l. state .entries i (omega arith)) in
       rw (k, le-ltb 2048 (word ws 4) (state .count))
 
-  looked-at : countOf ws ≡ word ws 4
-  unfolding countOf
+  looked-at : entryCount ws ≡ word ws 4
+  unfolding entryCount
   looked-at = omega (arith, state .count)
 
-  lines-fit : (i : ℕ) → i < countIn ws → entryFits (entryIn (linesIn (countOf ws) ws) i)
+  lines-fit : (i : ℕ) → i < countIn ws → entryFits (entryIn (linesIn (entryCount ws) ws) i)
   unfolding linesIn lineIn lineKnown
   lines-fit i h =
       let f : ℕ → Line = λ j. lineIn ws (entryPlace j) in
       let none : Line = record { entry = ReadAsked (record { 0 = 0 }) (record { 0 = 0 }) } in
       let k : i < word ws 4 = omega (arith, count-is) in
-      let l : i < countOf ws = omega (arith, looked-at) in
-      let e : getD (linesIn (countOf ws) ws) i none ≡ f i =
-      List·getD-append (firsts (countOf ws) f) (drop (countOf ws) (replicate entryLimit blank)) none i (omega (arith, firsts-long (countOf ws) f))
-      ∙ firsts-at (countOf ws) i f none l in
+      let l : i < entryCount ws = omega (arith, looked-at) in
+      let e : getD (linesIn (entryCount ws) ws) i none ≡ f i =
+      List·getD-append (firsts (entryCount ws) f) (drop (entryCount ws) (replicate entryLimit blank)) none i (omega (arith, firsts-long (entryCount ws) f))
+      ∙ firsts-at (entryCount ws) i f none l in
       subst (λ (x : Line). entryFits (x .entry)) (sym e)
       (entry-fits (word ws (entryPlace i)) (word ws (entryPlace i + 1)) (word ws (entryPlace i + 2)) (word ws (entryPlace i + 3)) (state .entries i k))
 
@@ -177,10 +177,10 @@ module _ (ws : List ℕ) (s : soundOf (rackOf ws) ≡ true) where
         parties-long = firsts-long 8 (λ i. partyIn ws (partyPlace i));
         pairs-long = firsts-long 240 (λ i. pairIn ws (pairPlace i));
         wire-long = firsts-long slotLimit (λ i. slotIn ws (slotPlace i));
-        lines-long = lines-in-long (countOf ws) ws (omega (arith, looked-at, state .count));
+        lines-long = lines-in-long (entryCount ws) ws (omega (arith, looked-at, state .count));
         parties = λ i h l. firsts-at 8 i (λ j. partyIn ws (partyPlace j)) idle l;
         pairs = λ i h l. firsts-at 240 i (λ j. pairIn ws (pairPlace j)) freshPair h;
-        lines = λ i h. lines-in-beyond (countOf ws) ws i (omega (arith, looked-at, count-is));
+        lines = λ i h. lines-in-beyond (entryCount ws) ws i (omega (arith, looked-at, count-is));
       }
 
   pub read-writable : Writable ws (rackOf ws)

@@ -28,7 +28,7 @@ use Rattle.layout.specs.Reading.{rackOf}
 use Rattle.layout.specs.Writing.{entryIn, writtenOf}
 use Rattle.layout.specs.laws.PlaceLaws.{Stands}
 use Rattle.layout.specs.laws.Again.{row-stands}
-use Rattle.layout.specs.Calls.{Outcome, runOutcome}
+use Rattle.layout.specs.Calls.{WordsOutcome, runOutcome}
 use Rattle.lent.specs.Called.{Called, made, ran}
 use Rattle.lent.specs.Handed.{rowsIn}
 use Rattle.lent.specs.laws.Read.{count-is, read-writable, made-fresh}
@@ -61,12 +61,12 @@ rows-stand (ran ws n es w c) = go (eqb (runOf (rackOf ws) n es .done) 0) refl (r
     long = eq-eqb (length ws) wordCount (called-long c)
 
     go : (t : Bool) → eqb (runOf (rackOf ws) n es .done) 0 ≡ t → RowsStand ws → RowsStand (runOutcome ws n es .lent)
-    go true e ih = subst (λ (o : Outcome). RowsStand (o .lent)) (sym (run-none ws n es long e)) ih
+    go true e ih = subst (λ (o : WordsOutcome). RowsStand (o .lent)) (sym (run-none ws n es long e)) ih
     go false e ih =
         let q : Rack = runOf (rackOf ws) n es .rack in
         let s : soundOf q ≡ true = run-stays (rackOf ws) n es (some-done (rackOf ws) n es (eqb-false (runOf (rackOf ws) n es .done) 0 e)) in
-        let same : rackOf (writtenOf q ws) ≡ q = subst (λ (o : Outcome). rackOf (o .lent) ≡ q) (run-some ws n es long e) (called-reads-again ws n es c) in
-        subst (λ (o : Outcome). RowsStand (o .lent)) (sym (run-some ws n es long e)) (written-rows q ws s (called-long c) same)
+        let same : rackOf (writtenOf q ws) ≡ q = subst (λ (o : WordsOutcome). rackOf (o .lent) ≡ q) (run-some ws n es long e) (called-reads-again ws n es c) in
+        subst (λ (o : WordsOutcome). RowsStand (o .lent)) (sym (run-some ws n es long e)) (written-rows q ws s (called-long c) same)
 
 -- ---- so all of them stand in a row
 

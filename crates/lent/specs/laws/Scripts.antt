@@ -6,30 +6,27 @@ use mathlib.Core.List.{List}
 use native.Mathlib.Omega.{arith}
 use lib.Dec.{ltb, eqb}
 use lib.ListN.{length}
-use Rattle.number.specs.Number.{numberAt}
+use Rattle.number.specs.Number.{numberAt, andThen}
 use Rattle.number.specs.laws.Trip.{written-read}
 use Rattle.number.specs.declared.Number.{Number}
 use Rattle.number.specs.declared.Number.the-variants.{Is, Refused as NoNumber}
-use Rattle.record.specs.Below.{Bytes, Words as Below32}
+use Rattle.number.specs.Below.{Bytes, Words as Below32}
+use Rattle.method.specs.laws.Tests.{whichever}
 use Rattle.script.specs.declared.Words.{Words}
 use Rattle.script.specs.declared.Words.the-variants.{Are, Refused}
-use Rattle.script.specs.Script.{andThen, reading, lastAt, cellAt, fieldsAt, eventAt, Events, none, enter, eventsIn, wordsOf}
+use Rattle.script.specs.Script.{reading, lastAt, cellAt, fieldsAt, eventAt, Events, none, enter, eventsIn, wordsOf}
 
 -- the four words of an event that could be read
 abbrev FourSmall : Words → Type 0
 FourSmall (Refused k byte) = Unit {0}
 FourSmall (Are a b c d next) = (a < 2 ^ 32) × ((b < 2 ^ 32) × ((c < 2 ^ 32) × (d < 2 ^ 32)))
 
-branch : (t : Bool) (v w : Words) → FourSmall v → FourSmall w → FourSmall (cond t v w)
-branch true v w p q = p
-branch false v w p q = q
-
 module _ (s : List ℕ) (bytes : Bytes s) where
   reading-small : (at : ℕ) (go : ℕ → ℕ → Words) → ((n next : ℕ) → n < 2 ^ 32 → FourSmall (go n next)) → FourSmall (reading s at go)
   unfolding andThen
   reading-small at go h = by (numberAt s at) refl
     where
-      by : (r : Number) → numberAt s at ≡ r → FourSmall (andThen at r go)
+      by : (r : Number) → numberAt s at ≡ r → FourSmall (andThen (λ k. Refused k at) r go)
       by (NoNumber k) e = tt
       by (Is n next) e = h n next (written-read s at n next bytes e .below)
 
@@ -41,19 +38,19 @@ module _ (s : List ℕ) (bytes : Bytes s) where
   unfolding cellAt
   cell-small at kind client hk hc =
       reading-small at (λ cell next. cond (eqb kind 0) (Are kind client cell 0 next) (lastAt s next kind client cell))
-      (λ cell next h. branch (eqb kind 0) (Are kind client cell 0 next) (lastAt s next kind client cell) (hk, (hc, (h, omega arith))) (last-small next kind client cell hk hc h))
+      (λ cell next h. whichever FourSmall (eqb kind 0) (Are kind client cell 0 next) (lastAt s next kind client cell) (hk, (hc, (h, omega arith))) (last-small next kind client cell hk hc h))
 
   fields-small : (at kind : ℕ) → kind < 2 ^ 32 → FourSmall (fieldsAt s at kind)
   unfolding fieldsAt
   fields-small at kind hk =
       reading-small at (λ field next. cond (ltb 1 kind) (Are kind field 0 0 next) (cellAt s next kind field))
-      (λ field next h. branch (ltb 1 kind) (Are kind field 0 0 next) (cellAt s next kind field) (hk, (h, (omega arith, omega arith))) (cell-small next kind field hk h))
+      (λ field next h. whichever FourSmall (ltb 1 kind) (Are kind field 0 0 next) (cellAt s next kind field) (hk, (h, (omega arith, omega arith))) (cell-small next kind field hk h))
 
   event-four : (at : ℕ) → FourSmall (eventAt s at)
   unfolding eventAt
   event-four at =
       reading-small at (λ kind next. cond (ltb 8 kind) (Refused 15 at) (fieldsAt s next kind))
-      (λ kind next h. branch (ltb 8 kind) (Refused 15 at) (fieldsAt s next kind) tt (fields-small next kind h))
+      (λ kind next h. whichever FourSmall (ltb 8 kind) (Refused 15 at) (fieldsAt s next kind) tt (fields-small next kind h))
 
   enter-small : (w : Words) (rest : ℕ → Events) → FourSmall w → ((next : ℕ) → Below32 (wordsOf (rest next))) → Below32 (wordsOf (enter w rest))
   unfolding enter wordsOf

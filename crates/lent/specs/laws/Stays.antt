@@ -18,8 +18,8 @@ use Rattle.stamps.specs.Stamp.{freshPair}
 use Rattle.method.specs.declared.Body.{Body}
 use Rattle.method.specs.declared.Body.the-variants.{Ask, Tell, Keep, Kept}
 use Rattle.method.specs.declared.Message.{Message}
-use Rattle.method.specs.declared.Held.{Held}
-use Rattle.method.specs.declared.Held.the-variants.{Empty, Full}
+use Rattle.method.specs.declared.InSlot.{InSlot}
+use Rattle.method.specs.declared.InSlot.the-variants.{Empty, Full}
 use Rattle.method.specs.declared.Work.{Work}
 use Rattle.method.specs.declared.Work.the-variants.{Idle, Asking, Keeping}
 use Rattle.method.specs.declared.Party.{Party}
@@ -27,8 +27,8 @@ use Rattle.method.specs.declared.Event.{Event}
 use Rattle.method.specs.declared.Note.{Note}
 use Rattle.method.specs.declared.Note.the-variants.{Nothing, Asked, Ended}
 use Rattle.method.specs.declared.Plan.{Plan}
-use Rattle.method.specs.declared.Outcome.{Outcome}
-use Rattle.method.specs.declared.Outcome.the-variants.{No, Go}
+use Rattle.method.specs.declared.Decision.{Decision}
+use Rattle.method.specs.declared.Decision.the-variants.{No, Go}
 use Rattle.method.specs.Plan.{messageOf}
 use Rattle.rack.specs.declared.Line.{Line}
 use Rattle.rack.specs.declared.Slot.{Slot}
@@ -43,8 +43,9 @@ use Rattle.runs.specs.laws.Stays.{set-either, stays, sound-stays}
 use Rattle.runs.specs.laws.Steps.{sound-from}
 use Rattle.back.specs.laws.Agrees.{decided-plan}
 use Rattle.layout.specs.Writing.{entryIn}
-use Rattle.layout.specs.laws.Trip.{entryFits, bodySmall, heldSmall, workSmall, plain}
-use Rattle.layout.specs.laws.Again.{Small, plainParty}
+use Rattle.layout.specs.laws.Trip.{entryFits, bodySmall, heldSmall, workSmall}
+use Rattle.layout.specs.Plain.{plain, plainParty}
+use Rattle.layout.specs.laws.Again.{Sayable}
 use Rattle.lent.specs.Plain.{Plain}
 use Rattle.lent.specs.laws.Whole.{Beyond}
 use Rattle.lent.specs.laws.Plans.{RankSmall, HeldOp, NoteFits, PlanStays, OutcomeStays, rank-below, plan-stays}
@@ -70,7 +71,7 @@ body-small z (Tell q) n h = rank-below z q n h
 body-small z (Keep q) n h = rank-below z q n h
 body-small z Kept n h = tt
 
-held-small : (z : Sizes) (x : Held) → Sized z → heldFits z x ≡ true → HeldOp x → heldSmall x
+held-small : (z : Sizes) (x : InSlot) → Sized z → heldFits z x ≡ true → HeldOp x → heldSmall x
 unfolding heldFits
 held-small z Empty n h o = tt
 held-small z (Full m) n h o =
@@ -92,7 +93,7 @@ work-small z (Keeping cell goal set held) n h k =
     let q = keep-open z cell goal set held h in
     (omega (arith, q .cell, n .cells), (set-below (z .replicas) set (n .replicas) (q .set), k))
 
-pub small-of : (ws : List ℕ) (r : Rack) → soundOf r ≡ true → Writable ws r → Small r
+pub small-of : (ws : List ℕ) (r : Rack) → soundOf r ≡ true → Writable ws r → Sayable r
 small-of ws r h k =
     let s : Sound r = sound-of r h in
     record {
@@ -162,7 +163,7 @@ cleared-ops true j w h i = set-either (λ (x : Slot). HeldOp (x .held)) w j empt
 cleared-ops false j w h i = h i
 
 -- the pair that a message is about is within the sizes
-place-within : (z : Sizes) (x : Held) → Sized z → heldFits z x ≡ true → (placeIn x < 16 * z .replicas) × (placeIn x % 16 < z .cells)
+place-within : (z : Sizes) (x : InSlot) → Sized z → heldFits z x ≡ true → (placeIn x < 16 * z .replicas) × (placeIn x % 16 < z .cells)
 unfolding placeIn heldFits
 place-within z Empty n h = (omega (arith, n .some-replica), omega (arith, n .some-cell))
 place-within z (Full m) n h =
@@ -239,7 +240,7 @@ run-keeps P step done r (suc n) (k ∷ a ∷ []) s h = h
 run-keeps P step done r (suc n) (k ∷ a ∷ b ∷ []) s h = h
 run-keeps P step done r (suc n) (k ∷ a ∷ b ∷ v ∷ es) s h = go (decided r (eventOf k a b v)) refl (λ q. run-keeps P step (done + 1) q n es)
   where
-    go : (o : Outcome) → decided r (eventOf k a b v) ≡ o → ((q : Rack) → soundOf q ≡ true → P q → P (runFrom (done + 1) q n es .rack))
+    go : (o : Decision) → decided r (eventOf k a b v) ≡ o → ((q : Rack) → soundOf q ≡ true → P q → P (runFrom (done + 1) q n es .rack))
         → P (turn done r (eventOf k a b v) o (λ q. runFrom (done + 1) q n es) .rack)
     go (No x) e ih = h
     go (Go p) e ih = ih (appliedOf r (eventOf k a b v) p) (sound-stays r (eventOf k a b v) p s e) (step r (eventOf k a b v) p s e h)

@@ -19,14 +19,14 @@ use Rattle.play.specs.laws.Parts.{run-front}
 use Rattle.layout.specs.Layout.{wordCount}
 use Rattle.layout.specs.Reading.{rackOf}
 use Rattle.layout.specs.Writing.{writtenOf}
-use Rattle.layout.specs.Calls.{Outcome, answerOf, unfit, leaves, runOutcome}
-use Rattle.lent.specs.Plain.{plainRack}
+use Rattle.layout.specs.Calls.{WordsOutcome, answerOf, unfit, leaves, runOutcome}
+use Rattle.lent.specs.Plain.{plainRack, plainRan}
 use Rattle.lent.specs.Together.{together}
 use Rattle.lent.specs.laws.Whole.{whole-plain}
 use Rattle.lent.specs.laws.Stays.{small-of, run-keeps}
 use Rattle.lent.specs.laws.Again.{none-done, some-done, after-sound, after-writable}
 use Rattle.lent.specs.laws.Calls.{written-long}
-use Rattle.lent.specs.laws.Alike.{plainRan, run-alike}
+use Rattle.lent.specs.laws.Alike.{run-alike}
 use Rattle.lent.specs.laws.Over.{written-alike, written-over}
 
 -- ---- sizes stay, and entries too
@@ -114,14 +114,14 @@ run-some ws n es e d = rw (e, d)
 -- ---- two calls
 
 -- what is to be shown of a first call with this outcome, where one call runs `all` and two calls leave `rest` to the second
-abbrev GoesOn : List ℕ → ℕ → List ℕ → List ℕ → Outcome → Type 0
+abbrev GoesOn : List ℕ → ℕ → List ℕ → List ℕ → WordsOutcome → Type 0
 GoesOn ws m all rest first = runOutcome ws (first .answer .done + m) all ≡ together first (runOutcome (first .lent) m rest)
 
 -- nothing was done: the second call is the only one
 none-goes-on : (ws : List ℕ) (m : ℕ) (all rest : List ℕ) (k : ℕ) → all ≡ rest → GoesOn ws m all rest (record { answer = answerOf 0 k; lent = ws })
 unfolding together
 none-goes-on ws m all rest k h =
-    let x : Outcome = runOutcome ws m rest in
+    let x : WordsOutcome = runOutcome ws m rest in
     let a : 0 + m ≡ m = omega arith in
     let b : x .answer .done ≡ 0 + x .answer .done = omega arith in
     ap (λ (i : ℕ). runOutcome ws i all) a ∙ ap (runOutcome ws m) h ∙ (λ j. record { answer = record { done = b j; refusal = x .answer .refusal }; lent = x .lent })
@@ -143,7 +143,7 @@ some-goes-on ws n m es all rest l h same left =
     ap (λ (t : Bool). cond t (leaves (runOf (rackOf ws) (d + m) all) ws) (unfit ws)) (eq-eqb (length ws) wordCount l)
     ∙ ap (λ (x : Ran). leaves x ws) parts
     ∙ ap (λ (t : Bool). record { answer = answerOf (d + y .done) (y .refusal); lent = cond t ws (writtenOf (y .rack) ws) }) some
-    ∙ ap (λ (x : Outcome). record { answer = answerOf (d + x .answer .done) (x .answer .refusal); lent = x .lent }) (sym (second ws n es m rest l h))
+    ∙ ap (λ (x : WordsOutcome). record { answer = answerOf (d + x .answer .done) (x .answer .refusal); lent = x .lent }) (sym (second ws n es m rest l h))
 
 -- What the first call did not do of its events, a second call goes on with: together they are one call, whatever is refused.
 pub rest-goes-on : (ws : List ℕ) (n m : ℕ) (es : List ℕ)
@@ -151,7 +151,7 @@ pub rest-goes-on : (ws : List ℕ) (n m : ℕ) (es : List ℕ)
     runOutcome ws (first .answer .done + m) es ≡ together first (runOutcome (first .lent) m (drop (4 * first .answer .done) es))
 rest-goes-on ws n m es = go (eqb (length ws) wordCount) refl (eqb (runOf (rackOf ws) n es .done) 0) refl
   where
-    Goal : Outcome → Type 0
+    Goal : WordsOutcome → Type 0
     Goal first = GoesOn ws m es (drop (4 * first .answer .done) es) first
 
     go : (t : Bool) → eqb (length ws) wordCount ≡ t → (u : Bool) → eqb (runOf (rackOf ws) n es .done) 0 ≡ u → Goal (runOutcome ws n es)
@@ -173,7 +173,7 @@ pub two-calls-one-run : (ws : List ℕ) (n m : ℕ) (es more : List ℕ)
     4 * first .answer .done ≡ length es → runOutcome ws (first .answer .done + m) (es ++ more) ≡ together first (runOutcome (first .lent) m more)
 two-calls-one-run ws n m es more = go (eqb (length ws) wordCount) refl (eqb (runOf (rackOf ws) n es .done) 0) refl
   where
-    Goal : Outcome → Type 0
+    Goal : WordsOutcome → Type 0
     Goal first = 4 * first .answer .done ≡ length es → GoesOn ws m (es ++ more) more first
 
     go : (t : Bool) → eqb (length ws) wordCount ≡ t → (u : Bool) → eqb (runOf (rackOf ws) n es .done) 0 ≡ u → Goal (runOutcome ws n es)

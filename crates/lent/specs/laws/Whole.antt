@@ -21,11 +21,11 @@ use Rattle.rack.specs.Places.{slotLimit, empty, idle, blank, partyAt}
 use Rattle.rack.specs.Sound.{soundOf}
 use Rattle.rack.specs.laws.SoundLaws.{Sound, sound-of}
 use Rattle.layout.specs.Layout.{wordCount, partyPlace, pairPlace, slotPlace, entryPlace, word, firsts}
-use Rattle.layout.specs.Reading.{pairIn, workIn, partyIn, slotIn, lineIn, linesIn, countOf, rackOf}
+use Rattle.layout.specs.Reading.{pairIn, workIn, partyIn, slotIn, lineIn, linesIn, entryCount, rackOf}
 use Rattle.layout.specs.Writing.{writtenOf}
 use Rattle.layout.specs.laws.Firsts.{firsts-long, firsts-at}
-use Rattle.layout.specs.laws.Trip.{plain}
-use Rattle.layout.specs.laws.Again.{Small, Again, plainParty, head-stands, written-again}
+use Rattle.layout.specs.Plain.{plain, plainParty}
+use Rattle.layout.specs.laws.Again.{Sayable, Again, head-stands, written-again}
 use Rattle.lent.specs.Plain.{plainRack, Plain}
 use Rattle.lent.specs.laws.Away.{away-stays}
 
@@ -112,7 +112,7 @@ plain-twice p = ap (λ (w : Work). record { stopped = p .stopped; op = p .op; wo
 
 -- ---- a rack is read again
 
-module _ (r : Rack) (ws : List ℕ) (s : soundOf r ≡ true) (f : Small r) (l : length ws ≡ wordCount) (b : Beyond ws r) where
+module _ (r : Rack) (ws : List ℕ) (s : soundOf r ≡ true) (f : Sayable r) (l : length ws ≡ wordCount) (b : Beyond ws r) where
   -- the words that it leaves
   abbrev left : List ℕ
   left = writtenOf r ws
@@ -189,14 +189,14 @@ module _ (r : Rack) (ws : List ℕ) (s : soundOf r ≡ true) (f : Small r) (l : 
   count-few : r .count ≤ 2048
   count-few = omega (arith, sound .entries)
 
-  counted : countOf left ≡ r .count
-  unfolding countOf
+  counted : entryCount left ≡ r .count
+  unfolding entryCount
   counted = let e : word left 4 ≡ r .count = head-stands r ws s l 4 (omega arith) in omega (arith, count-few)
 
   lines-again : read .lines ≡ r .lines
   unfolding rackOf
   lines-again =
-      let x : length (read .lines) ≡ 2048 = lines-in-long (countOf left) left (omega (arith, counted, count-few)) in
+      let x : length (read .lines) ≡ 2048 = lines-in-long (entryCount left) left (omega (arith, counted, count-few)) in
       ext-getD blank (read .lines) (r .lines) (x ∙ sym (b .lines-long)) (λ i h. go i (omega arith) (omega arith) (ltb i (r .count)) refl)
     where
       go : (i : ℕ) → i < length (read .lines) → i < 2048 → (t : Bool) → ltb i (r .count) ≡ t → getD (read .lines) i blank ≡ getD (r .lines) i blank
@@ -207,7 +207,7 @@ module _ (r : Rack) (ws : List ℕ) (s : soundOf r ≡ true) (f : Small r) (l : 
           ∙ any-default none blank (r .lines) i (omega (arith, b .lines-long))
       go i h k false e =
           let m : r .count ≤ i = ltb-false i (r .count) e in
-          lines-in-beyond (countOf left) left i (omega (arith, counted)) ∙ sym (b .lines i m)
+          lines-in-beyond (entryCount left) left i (omega (arith, counted)) ∙ sym (b .lines i m)
 
   parties-read-long : length (read .parties) ≡ 8
   unfolding rackOf

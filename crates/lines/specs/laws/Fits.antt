@@ -15,8 +15,8 @@ use Rattle.quorum.specs.Sets.{setBits, hasReplica}
 use Rattle.stamps.specs.declared.Pair.{Pair}
 use Rattle.method.specs.declared.Body.{Body}
 use Rattle.method.specs.declared.Body.the-variants.{Ask, Tell, Keep, Kept}
-use Rattle.method.specs.declared.Held.{Held}
-use Rattle.method.specs.declared.Held.the-variants.{Empty, Full}
+use Rattle.method.specs.declared.InSlot.{InSlot}
+use Rattle.method.specs.declared.InSlot.the-variants.{Empty, Full}
 use Rattle.method.specs.declared.Goal.{Goal}
 use Rattle.method.specs.declared.Goal.the-variants.{Read, Write}
 use Rattle.method.specs.declared.Work.{Work}
@@ -63,7 +63,7 @@ names-few : (client replica cell op : ℕ) → Few (namesText client replica cel
 names-few client replica cell op =
     record { few = simp length-append (omega (arith, digits-few 20 client .few, digits-few 20 replica .few, digits-few 20 cell .few, digits-few 20 op .few)) }
 
-slot-few : (i : ℕ) (h : Held) → Few (slotLine i h) 207
+slot-few : (i : ℕ) (h : InSlot) → Few (slotLine i h) 207
 slot-few i Empty = record { few = omega arith }
 slot-few i (Full m) =
     let names = names-few (m .client .0) (m .replica .0) (m .cell .0) (m .op) in

@@ -2,23 +2,15 @@
 use mathlib.Core.Path.{_≡_, refl}
 use mathlib.Core.Bool.{true, false}
 use mathlib.Core.List.{[], _∷_}
-use lib.IntN.{pos, negsuc}
+use lib.IntN.{negsuc}
 use Rattle.text.specs.Text.{digitsOf, valueText}
 use Rattle.quorum.specs.Sets.{setBits, hasReplica}
-use Rattle.stamps.specs.declared.Pair.{Pair}
 use Rattle.method.specs.declared.Body.the-variants.{Ask, Keep}
-use Rattle.method.specs.declared.Held.the-variants.{Full}
+use Rattle.method.specs.declared.InSlot.the-variants.{Full}
 use Rattle.method.specs.declared.Goal.the-variants.{Read, Write}
 use Rattle.method.specs.declared.Work.the-variants.{Idle, Asking, Keeping}
 use Rattle.lines.specs.Lines.{eachBelow, slotLine, clientLine, sizesLine, faultLine}
-
--- stamp (1, 0) with value 9
-abbrev nine : Pair
-nine = record { stamp = record { number = 1; rank = 0 }; value = pos 9 }
-
--- stamp (2, 1) with value -5
-abbrev below : Pair
-below = record { stamp = record { number = 2; rank = 1 }; value = negsuc 4 }
+use Rattle.lines.specs.Examples.{nine, below}
 
 -- `slot 2 ask client 0 replica 2 cell 0 op 1`
 pub ask-line : slotLine 2 (Full (record { client = record { 0 = 0 }; replica = record { 0 = 2 }; cell = record { 0 = 0 }; op = 1; body = Ask }))

@@ -12,8 +12,8 @@ use Rattle.stamps.specs.Stamp.{stampLess, raised}
 use Rattle.method.specs.declared.Body.{Body}
 use Rattle.method.specs.declared.Body.the-variants.{Ask, Tell, Keep, Kept}
 use Rattle.method.specs.declared.Message.{Message}
-use Rattle.method.specs.declared.Held.{Held}
-use Rattle.method.specs.declared.Held.the-variants.{Empty, Full}
+use Rattle.method.specs.declared.InSlot.{InSlot}
+use Rattle.method.specs.declared.InSlot.the-variants.{Empty, Full}
 use Rattle.method.specs.declared.Goal.{Goal}
 use Rattle.method.specs.declared.Goal.the-variants.{Read, Write}
 use Rattle.method.specs.declared.Work.{Work}
@@ -22,12 +22,12 @@ use Rattle.method.specs.declared.Sight.{Sight}
 use Rattle.method.specs.declared.Event.{Event}
 use Rattle.method.specs.declared.Event.the-variants.{StartRead, StartWrite, Deliver, Lose, Copy, Resend, Stop, Off, On, Unknown}
 use Rattle.method.specs.declared.Plan.{Plan}
-use Rattle.method.specs.declared.Outcome.{Outcome}
-use Rattle.method.specs.declared.Outcome.the-variants.{No, Go}
+use Rattle.method.specs.declared.Decision.{Decision}
+use Rattle.method.specs.declared.Decision.the-variants.{No, Go}
 use Rattle.method.specs.Plan.{usedUp, started, startIn, startOf, askOf, keepOf, current, keepsOf, written, phaseEnds, holds, tellCounts, tellIn, tellOf, lastEntry}
 use Rattle.method.specs.Plan.{keptCounts, keptIn, keptOf, deliverIn, deliverOf, copyOf, resendIn, resendOf, stopOf, powered, offOf, onOf, ofSlot, planOf}
 use Rattle.method.specs.About.{clientIn, clientOf}
-use Rattle.method.specs.laws.Tests.{and-right, either, either}
+use Rattle.method.specs.laws.Tests.{and-right, either}
 use Rattle.method.specs.Method.{Raised, Holds, Chosen, firstEntry, endEntry, Heard, Counted, Does}
 use Rattle.method.specs.Method.Raised.{taken, left}
 use Rattle.method.specs.Method.Holds.{first, later}
@@ -55,14 +55,14 @@ holds-is set held told = go (eqb set 0) refl
 -- ---- outcomes
 
 -- what is done, if anything is, is of the method
-abbrev DoesIf : Sight → ℕ → Held → Outcome → Type 0
+abbrev DoesIf : Sight → ℕ → InSlot → Decision → Type 0
 DoesIf s client held (No k) = Unit {0}
 DoesIf s client held (Go p) = Does s client held p
 
 module _ (s : Sight) where
   -- ---- a start
 
-  start-does : (held : Held) (client : Client) (cell : Cell) (goal : Goal) → DoesIf s (client .0) held (startOf s client cell goal (firstEntry goal client cell))
+  start-does : (held : InSlot) (client : Client) (cell : Cell) (goal : Goal) → DoesIf s (client .0) held (startOf s client cell goal (firstEntry goal client cell))
   unfolding startOf startIn started
   start-does held client cell goal = either (DoesIf s (client .0) held) (s .party .stopped) _ _ (λ e. tt) (λ e. go (s .party .work) refl)
     where
@@ -86,7 +86,7 @@ module _ (s : Sight) where
 
   module _ (m : Message) where
     -- what is done with the message m, if anything is, is of the method
-    abbrev It : Outcome → Type 0
+    abbrev It : Decision → Type 0
     It = DoesIf s (m .client .0) (Full m)
 
     used-does : It (usedUp s m)
@@ -235,7 +235,7 @@ module _ (s : Sight) where
 
   -- ---- resend, stop, power
 
-  resend-does : (held : Held) (client : Client) → DoesIf s (client .0) held (resendOf s client)
+  resend-does : (held : InSlot) (client : Client) → DoesIf s (client .0) held (resendOf s client)
   unfolding resendOf resendIn
   resend-does held client = either (DoesIf s (client .0) held) (s .party .stopped) _ _ (λ e. tt) (λ e. go (s .party .work) refl)
     where
@@ -254,19 +254,19 @@ module _ (s : Sight) where
             sends = again (cell .0) (Keep q) (rw e (refl, refl)) (record { client = refl; cell = refl; op = refl; body = refl });
           })
 
-  stop-does : (client : ℕ) (held : Held) → DoesIf s client held (stopOf s)
+  stop-does : (client : ℕ) (held : InSlot) → DoesIf s client held (stopOf s)
   unfolding stopOf
   stop-does client held =
       either (DoesIf s client held) (s .party .stopped) _ _ (λ e. tt)
       (λ e. rests (record { still = record { op = refl; work = refl; note = refl }; pair = refl; sends = none refl }))
 
-  powered-does : (client : ℕ) (held : Held) (power : ℕ) → DoesIf s client held (powered s power)
+  powered-does : (client : ℕ) (held : InSlot) (power : ℕ) → DoesIf s client held (powered s power)
   unfolding powered
   powered-does client held power = rests (record { still = record { op = refl; work = refl; note = refl }; pair = refl; sends = none refl })
 
   -- ---- every event
 
-  event-does : (held : Held) (e : Event) → DoesIf s (clientOf e held) held (planOf s held e)
+  event-does : (held : InSlot) (e : Event) → DoesIf s (clientOf e held) held (planOf s held e)
   unfolding planOf clientOf clientIn ofSlot deliverOf offOf onOf
   event-does held (StartRead client cell) = start-does held client cell Read
   event-does held (StartWrite client cell v) = start-does held client cell (Write v)
@@ -282,5 +282,5 @@ module _ (s : Sight) where
   event-does held (On replica) = either (DoesIf s 0 held) (hasReplica (s .power) (replica .0)) _ _ (λ e. tt) (λ e. powered-does 0 held _)
   event-does held Unknown = tt
 
-  pub method : (held : Held) (e : Event) (p : Plan) → planOf s held e ≡ Go p → Does s (clientOf e held) held p
+  pub method : (held : InSlot) (e : Event) (p : Plan) → planOf s held e ≡ Go p → Does s (clientOf e held) held p
   method held e p q = subst (DoesIf s (clientOf e held) held) q (event-does held e)

@@ -5,12 +5,12 @@ use mathlib.Core.Path.{_≡_, refl, ap, sym, _∙_}
 use mathlib.Core.Bool.{Bool, true, false, cond}
 use mathlib.Core.Logic.{_⊎_, inl, inr, ⊎-elim}
 use native.Mathlib.Omega.{arith}
-use lib.ListN.{length, drop, getD}
-use lib.Seq.{sets, length-sets}
+use lib.ListN.{length, drop}
+use lib.Seq.{sets}
 use lib.Dec.{ltb}
 use borrow.Author.Tests.{lt-ltb, le-ltb, le-leb, lt-leb, ltb-true, ltb-false}
 use Rattle.number.specs.Below.{Bytes}
-use Rattle.number.specs.Number.{groupsOf, numberBytes, numberAt, numberOf, taken, endsFirst, lastIsZero, fifthAbove, valueOf, fitsAt, putAnswer, putBytes, Placed}
+use Rattle.number.specs.Number.{groupsOf, numberBytes, numberAt, numberOf, taken, endsFirst, lastIsZero, fifthAbove, valueOf, putAnswer, putBytes, Placed}
 use Rattle.number.specs.Wrote.{Wrote}
 use Rattle.number.specs.declared.Number.the-variants.{Is, Refused}
 use Rattle.number.specs.declared.Put.{Put}

@@ -19,7 +19,7 @@ use Rattle.record.specs.declared.Found.{Found}
 use Rattle.record.specs.declared.Found.the-variants.{At, Fault}
 use Rattle.record.specs.declared.Standing.{Standing}
 use Rattle.record.specs.Entry.{upTo, fieldsAt, entryAt}
-use Rattle.record.specs.Record.{fresh, faultAfter, standingAfter, Held, entries, fault, before, enter, heldFrom, recordOf}
+use Rattle.record.specs.Record.{fresh, faultAfter, standingAfter, Held, entries, fault, before, enter, heldFrom, bytesHeld}
 use Rattle.record.specs.laws.EntryTrip.{went, passed}
 use Rattle.pairs.specs.Pairs.{byteLimit}
 
@@ -231,6 +231,6 @@ module _ (s : List ℕ) (m : ℕ) where
       (λ e next l. held-enough left next (n + 1) (standingAfter st e) (omega arith)) (entryAt s at) refl)
 
 -- the first 16,385 bytes decide what the bytes hold
-pub enough : (s : List ℕ) → recordOf (take byteLimit s) ≡ recordOf s
-unfolding recordOf
+pub enough : (s : List ℕ) → bytesHeld (take byteLimit s) ≡ bytesHeld s
+unfolding bytesHeld
 enough s = held-enough s byteLimit 2048 0 0 fresh (omega arith)

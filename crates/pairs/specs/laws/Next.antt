@@ -23,9 +23,9 @@ use Rattle.law.specs.Order.{In}
 use Rattle.law.specs.laws.Lists.{in-next}
 use Rattle.law.specs.Standing.{has}
 use Rattle.law.specs.laws.Steps.{kindOf, ending, ending-keeps, ending-over, may-step}
-use Rattle.law.specs.laws.Operations.{Tied, none-open, still-open}
+use Rattle.law.specs.laws.Operations.{Matches, none-open, still-open}
 use Rattle.pairs.specs.Pairs.{StartsAt, EndsAt, Paired}
-use Rattle.pairs.specs.laws.Noting.{Long, rowOf}
+use Rattle.pairs.specs.laws.Noting.{Long, noteRow}
 
 -- below the place after n: n, or before it
 split : (n p : ℕ) → p < n + 1 → (p < n) ⊎ (p ≡ n)
@@ -167,7 +167,7 @@ true-false p q = let z : _≡_ {A = ℕ} 0 1 = cc in absurd (omega arith)
 abbrev pub OpenAt : List Op → List ℕ → Type 0
 OpenAt ops opened = (x : Op) → In x ops → x .over ≡ false → getD opened (x .client) 0 ≡ x .number
 
-module _ (kinds cells values starts opened : List ℕ) (n : ℕ) (ops : List Op) (long : Long kinds cells values starts) (few : n < 2048) (st : Standing) (tied : Tied st ops)
+module _ (kinds cells values starts opened : List ℕ) (n : ℕ) (ops : List Op) (long : Long kinds cells values starts) (few : n < 2048) (st : Standing) (tied : Matches st ops)
     (by : OpenAt ops opened) where
   -- the cell that is found for an end
   cell-found : Paired ops n kinds cells values starts → (o : Op) → In o ops → (k : ℕ) → o .client ≡ k → o .over ≡ false → getD cells (getD opened k 0) 0 ≡ o .cell
@@ -176,17 +176,17 @@ module _ (kinds cells values starts opened : List ℕ) (n : ℕ) (ops : List Op)
       ap (λ (j : ℕ). getD cells j 0) s ∙ old .started o m .1 .cell
 
   pub paired-next : Paired ops n kinds cells values starts → (e : Entry) → InRange e → faultAfter st e ≡ 0
-      → Paired (note n e ops) (n + 1) (set kinds n (rowOf cells opened n e .kind)) (set cells n (rowOf cells opened n e .cell)) (set values n (rowOf cells opened n e .value))
-      (set starts n (rowOf cells opened n e .start))
+      → Paired (note n e ops) (n + 1) (set kinds n (noteRow cells opened n e .kind)) (set cells n (noteRow cells opened n e .cell)) (set values n (noteRow cells opened n e .value))
+      (set starts n (noteRow cells opened n e .start))
   unfolding note faultAfter
   paired-next old (ReadAsked client cell) r f =
-      let row = rowOf cells opened n (ReadAsked client cell) in
+      let row = noteRow cells opened n (ReadAsked client cell) in
       paired-asks kinds cells values starts n ops long few old (client .0) (cell .0) false (pos 0) (row .kind) (row .value) refl (λ t. true-false t refl)
   paired-next old (WriteAsked client cell v) r f =
-      let row = rowOf cells opened n (WriteAsked client cell v) in
+      let row = noteRow cells opened n (WriteAsked client cell v) in
       paired-asks kinds cells values starts n ops long few old (client .0) (cell .0) true v (row .kind) (row .value) refl (λ t. refl)
   paired-next old (Told client v) r f =
-      let row = rowOf cells opened n (Told client v) in
+      let row = noteRow cells opened n (Told client v) in
       let h : has st (client .0) ≡ 1 = eqb-true _ 1 (no-fault (eqb (has st (client .0)) 1) 27 (λ e. omega arith) f) in
       let w = tied .found (client .0) (λ z. omega arith) in
       let q = w .1 .1 .0 in
@@ -198,7 +198,7 @@ module _ (kinds cells values starts opened : List ℕ) (n : ℕ) (ops : List Op)
       (rw read) (cell-found old (w .0) (w .1 .0) (client .0) q z) (ap (λ (j : ℕ). getD opened j 0) (sym q) ∙ by (w .0) (w .1 .0) z)
       (λ t. true-false t read) (λ t. refl)
   paired-next old (Done client) r f =
-      let row = rowOf cells opened n (Done client) in
+      let row = noteRow cells opened n (Done client) in
       let h : has st (client .0) ≡ 2 = eqb-true _ 2 (no-fault (eqb (has st (client .0)) 2) 27 (λ e. omega arith) f) in
       let w = tied .found (client .0) (λ z. omega arith) in
       let q = w .1 .1 .0 in
@@ -219,7 +219,7 @@ module _ (kinds cells values starts opened : List ℕ) (n : ℕ) (ops : List Op)
   open-ends : (k : ℕ) (v : ℤ → ℤ) (start : ℕ) → OpenAt (map (ending n k v) ops) (set opened k start)
   open-ends k v start x m o = let b = still-open n k v ops x m o in getD-set-other opened k (x .client) start 0 (b .1) ∙ by x (b .0) o
 
-  pub open-next : length opened ≡ 8 → (e : Entry) → InRange e → faultAfter st e ≡ 0 → OpenAt (note n e ops) (set opened (rowOf cells opened n e .client) (rowOf cells opened n e .start))
+  pub open-next : length opened ≡ 8 → (e : Entry) → InRange e → faultAfter st e ≡ 0 → OpenAt (note n e ops) (set opened (noteRow cells opened n e .client) (noteRow cells opened n e .start))
   unfolding note
   open-next eight (ReadAsked client cell) r f = let a = may-step st (ReadAsked client cell) r f in open-asks eight (client .0) (cell .0) false (pos 0) (a .0) (a .2)
   open-next eight (WriteAsked client cell v) r f = let a = may-step st (WriteAsked client cell v) r f in open-asks eight (client .0) (cell .0) true v (a .0) (a .2)

@@ -29,11 +29,11 @@ endRow cells opened client kind value =
     record { client = client; kind = kind; cell = getD cells (getD opened client 0) 0; value = value; start = getD opened client 0 }
 
 -- kinds: 0 a read asked, 1 a write asked, 2 told, 3 done; the value as the number that it is written as, 0 where the entry has none
-abbrev pub rowOf : List ℕ → List ℕ → ℕ → Entry → Row
-rowOf cells opened n (ReadAsked client cell) = startRow n (client .0) 0 (cell .0) 0
-rowOf cells opened n (WriteAsked client cell v) = startRow n (client .0) 1 (cell .0) (alternatingOf v)
-rowOf cells opened n (Told client v) = endRow cells opened (client .0) 2 (alternatingOf v)
-rowOf cells opened n (Done client) = endRow cells opened (client .0) 3 0
+abbrev pub noteRow : List ℕ → List ℕ → ℕ → Entry → Row
+noteRow cells opened n (ReadAsked client cell) = startRow n (client .0) 0 (cell .0) 0
+noteRow cells opened n (WriteAsked client cell v) = startRow n (client .0) 1 (cell .0) (alternatingOf v)
+noteRow cells opened n (Told client v) = endRow cells opened (client .0) 2 (alternatingOf v)
+noteRow cells opened n (Done client) = endRow cells opened (client .0) 3 0
 
 -- a row is stored at place n, and its start as its client's
 pub record Noted (kinds cells values starts opened : List ℕ) (n : ℕ) (row : Row) (kinds′ cells′ values′ starts′ opened′ : List ℕ) : Type 0 where

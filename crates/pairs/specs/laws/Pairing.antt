@@ -14,7 +14,7 @@ use Rattle.record.specs.declared.Found.the-variants.{At, Fault}
 use Rattle.record.specs.declared.Standing.{Standing}
 use Rattle.record.specs.declared.Answer.the-variants.{All, Refused}
 use Rattle.record.specs.Entry.{entryAt}
-use Rattle.record.specs.Record.{fresh, faultAfter, standingAfter, Held, entries, before, heldFrom, recordOf, surveyOf}
+use Rattle.record.specs.Record.{fresh, faultAfter, standingAfter, Held, entries, before, heldFrom, bytesHeld, surveyOf}
 use Rattle.record.specs.Legal.{InRange, Follows}
 use Rattle.record.specs.laws.Steps.{Counting, ends, onward, survey-tally, tally, counts-end, counts-full, counts-unread, counts-misplaced, counts-on}
 use Rattle.law.specs.Operation.{Op, note, notes, operations}
@@ -22,7 +22,7 @@ use Rattle.law.specs.Standing.{standingFrom, standing}
 use Rattle.law.specs.laws.Operations.{standing-append, operations-next, tied, fresh-none}
 use Rattle.pairs.specs.declared.Row.{Row}
 use Rattle.pairs.specs.Pairs.{Paired, PairsUp}
-use Rattle.pairs.specs.laws.Noting.{Long, Low, rowOf, Noted}
+use Rattle.pairs.specs.laws.Noting.{Long, Low, noteRow, Noted}
 use Rattle.record.specs.laws.EntryTrip.{written-entry}
 use Rattle.pairs.specs.laws.Next.{OpenAt, paired-next, open-next}
 
@@ -51,12 +51,12 @@ follows-next st (x ∷ es) e f r z = (f .0, f .1, follows-next (standingAfter st
 
 -- n entries are read without a fault, and the arrays hold their operations; by client, opened has where an open one starts
 pub record Pairing (s kinds cells values starts opened : List ℕ) (st : Standing) (at n : ℕ) : Type 0 where
-  pub counting : Counting (λ i. ltb i (length s)) (entryAt s) (λ e. 1) (recordOf s) at n n st
+  pub counting : Counting (λ i. ltb i (length s)) (entryAt s) (λ e. 1) (bytesHeld s) at n n st
   pub read : List Entry
   pub count : length read ≡ n
   pub follows : Follows fresh read
   pub stands : standing read ≡ st
-  pub held : recordOf s ≡ prepend read (heldFrom (λ i. ltb i (length s)) (entryAt s) (counting .left) at n st)
+  pub held : bytesHeld s ≡ prepend read (heldFrom (λ i. ltb i (length s)) (entryAt s) (counting .left) at n st)
   pub long : Long kinds cells values starts
   pub paired : Paired (operations read) n kinds cells values starts
   pub eight : length opened ≡ 8
@@ -71,13 +71,13 @@ low-set opened k n l few low j = go (ℕ-discrete j k)
     go (no d) = rw (getD-set-other opened k j n 0 d) (low j)
 
 -- a row's client is one of eight, and its start is an entry's number
-pub row-client : (cells opened : List ℕ) (n : ℕ) (e : Entry) → InRange e → rowOf cells opened n e .client ≤ 7
+pub row-client : (cells opened : List ℕ) (n : ℕ) (e : Entry) → InRange e → noteRow cells opened n e .client ≤ 7
 row-client cells opened n (ReadAsked client cell) r = r .0
 row-client cells opened n (WriteAsked client cell v) r = r .0
 row-client cells opened n (Told client v) r = r .0
 row-client cells opened n (Done client) r = r
 
-row-start : (cells opened : List ℕ) (n : ℕ) (e : Entry) → n < 2048 → Low opened → rowOf cells opened n e .start < 2048
+row-start : (cells opened : List ℕ) (n : ℕ) (e : Entry) → n < 2048 → Low opened → noteRow cells opened n e .start < 2048
 row-start cells opened n (ReadAsked client cell) few low = few
 row-start cells opened n (WriteAsked client cell v) few low = few
 row-start cells opened n (Told client v) few low = low (client .0)
@@ -104,7 +104,7 @@ low-zeros : Low (0 ∷ 0 ∷ 0 ∷ 0 ∷ 0 ∷ 0 ∷ 0 ∷ 0 ∷ [])
 low-zeros k = omega (arith, fresh-none k)
 
 pub pairs-none : (s kinds cells values starts : List ℕ) → Long kinds cells values starts → Pairing s kinds cells values starts (0 ∷ 0 ∷ 0 ∷ 0 ∷ 0 ∷ 0 ∷ 0 ∷ 0 ∷ []) fresh 0 0
-unfolding recordOf prepend operations notes
+unfolding bytesHeld prepend operations notes
 pairs-none s kinds cells values starts long =
     record {
       counting = record { left = 2048; limit = refl; same = refl };
@@ -123,10 +123,10 @@ pairs-none s kinds cells values starts long =
 -- ---- at each turn
 
 -- a refusal is no record: the arrays are bound to nothing
-pub pairs-refused : (s kinds cells values starts : List ℕ) (k n : ℕ) → Refused k n ≡ tally (λ e. 1) 0 (recordOf s) → PairsUp s (Refused k n) kinds cells values starts
+pub pairs-refused : (s kinds cells values starts : List ℕ) (k n : ℕ) → Refused k n ≡ tally (λ e. 1) 0 (bytesHeld s) → PairsUp s (Refused k n) kinds cells values starts
 unfolding surveyOf
 pairs-refused s kinds cells values starts k n p =
-    let q : Refused k n ≡ surveyOf (recordOf s) = p ∙ sym (survey-tally (recordOf s)) in
+    let q : Refused k n ≡ surveyOf (bytesHeld s) = p ∙ sym (survey-tally (bytesHeld s)) in
     record {
       answer = q;
       paired = λ es h. let a : Refused k n ≡ All (length es) = q ∙ ap surveyOf h in let z : _≡_ {A = ℕ} 0 1 = cc in absurd (omega arith);
@@ -148,15 +148,15 @@ module _ {s kinds cells values starts opened : List ℕ} {st : Standing} {at n :
 
   pub pairs-end : ltb at (length s) ≡ false → PairsUp s (All n) kinds cells values starts
   pairs-end h =
-      let all : recordOf s ≡ entries (w .read) = w .held ∙ ap (prepend (w .read)) (ends _ _ (w .counting .left) at n st h) ∙ prepend-none (w .read) in
+      let all : bytesHeld s ≡ entries (w .read) = w .held ∙ ap (prepend (w .read)) (ends _ _ (w .counting .left) at n st h) ∙ prepend-none (w .read) in
       record {
-        answer = counts-end _ _ _ _ _ _ _ _ (w .counting) h ∙ sym (survey-tally (recordOf s));
+        answer = counts-end _ _ _ _ _ _ _ _ (w .counting) h ∙ sym (survey-tally (bytesHeld s));
         paired = λ es q. let same : es ≡ w .read = cc in rw same (rw (w .count) (w .paired));
       }
 
   pub pairs-on : {kinds′ cells′ values′ starts′ opened′ : List ℕ} {st′ : Standing} (e : Entry) (next : ℕ) → ((i : ℕ) → getD s i 0 < 256)
       → ltb at (length s) ≡ true → (n ≡ 2048 → ⊥) → entryAt s at ≡ At e next → faultAfter st e ≡ 0
-      → Noted kinds cells values starts opened n (rowOf cells opened n e) kinds′ cells′ values′ starts′ opened′ → st′ ≡ standingAfter st e
+      → Noted kinds cells values starts opened n (noteRow cells opened n e) kinds′ cells′ values′ starts′ opened′ → st′ ≡ standingAfter st e
       → Pairing s kinds′ cells′ values′ starts′ opened′ st′ next (n + 1)
   pairs-on e next bytes h l g z q t =
       let few : n < 2048 = pairs-few l in
@@ -176,8 +176,8 @@ module _ {s kinds cells values starts opened : List ℕ} {st : Standing} {at n :
             ∙ ap (prepend (w .read)) (onward _ _ (c .left) at n st e next h g z) ∙ sym (prepend-next (w .read) e _);
         long = noted-long q (w .long);
         paired = rw ops (noted-paired q (paired-next kinds cells values starts opened n (operations (w .read)) (w .long) few st ties (w .openAt) (w .paired) e r z));
-        eight = ap length (q .opened-set) ∙ length-set opened (rowOf cells opened n e .client) (rowOf cells opened n e .start) ∙ w .eight;
-        low = rw (q .opened-set) (low-set opened (rowOf cells opened n e .client) (rowOf cells opened n e .start)
+        eight = ap length (q .opened-set) ∙ length-set opened (noteRow cells opened n e .client) (noteRow cells opened n e .start) ∙ w .eight;
+        low = rw (q .opened-set) (low-set opened (noteRow cells opened n e .client) (noteRow cells opened n e .start)
             (omega (arith, row-client cells opened n e r, w .eight)) (row-start cells opened n e few (w .low)) (w .low));
         openAt = rw (ops, q .opened-set) (open-next kinds cells values starts opened n (operations (w .read)) (w .long) few st ties (w .openAt) (w .eight) e r z);
       })

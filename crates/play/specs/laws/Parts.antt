@@ -11,8 +11,8 @@ use borrow.Author.Tests.{ltb-true, ltb-false}
 use Rattle.script.specs.declared.Filled.{Filled}
 use Rattle.script.specs.Script.{eventsFrom, wordsOf, wordsUpTo, countUpTo, placeAfter, Fills}
 use Rattle.script.specs.laws.Steps.{four-each, few-each, words-parts, no-words}
-use Rattle.method.specs.declared.Outcome.{Outcome}
-use Rattle.method.specs.declared.Outcome.the-variants.{No, Go}
+use Rattle.method.specs.declared.Decision.{Decision}
+use Rattle.method.specs.declared.Decision.the-variants.{No, Go}
 use Rattle.rack.specs.declared.Rack.{Rack}
 use Rattle.rack.specs.declared.Ran.{Ran}
 use Rattle.rack.specs.Sound.{soundOf}
@@ -32,7 +32,7 @@ from-front (suc n) done r (k ∷ a ∷ []) ys zs h = absurd (omega arith)
 from-front (suc n) done r (k ∷ a ∷ b ∷ []) ys zs h = absurd (omega arith)
 from-front (suc n) done r (k ∷ a ∷ b ∷ v ∷ xs) ys zs h = go (decided r (eventOf k a b v)) (λ q. from-front n (done + 1) q xs ys zs (omega arith))
   where
-    go : (o : Outcome) → ((q : Rack) → runFrom (done + 1) q n (xs ++ ys) ≡ runFrom (done + 1) q n (xs ++ zs))
+    go : (o : Decision) → ((q : Rack) → runFrom (done + 1) q n (xs ++ ys) ≡ runFrom (done + 1) q n (xs ++ zs))
         → turn done r (eventOf k a b v) o (λ q. runFrom (done + 1) q n (xs ++ ys)) ≡ turn done r (eventOf k a b v) o (λ q. runFrom (done + 1) q n (xs ++ zs))
     go (No x) ih = refl
     go (Go p) ih = ih (appliedOf r (eventOf k a b v) p)

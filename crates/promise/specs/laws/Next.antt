@@ -12,8 +12,8 @@ use Rattle.law.specs.Operation.{operations}
 use Rattle.law.specs.Order.{In}
 use Rattle.method.specs.declared.Body.{Body}
 use Rattle.method.specs.declared.Message.{Message}
-use Rattle.method.specs.declared.Held.{Held}
-use Rattle.method.specs.declared.Held.the-variants.{Empty, Full}
+use Rattle.method.specs.declared.InSlot.{InSlot}
+use Rattle.method.specs.declared.InSlot.the-variants.{Empty, Full}
 use Rattle.method.specs.declared.Party.{Party}
 use Rattle.rack.specs.declared.Line.{Line}
 use Rattle.rack.specs.declared.Rack.{Rack}
@@ -30,7 +30,7 @@ use Rattle.protocol.specs.View.{Setting, Op, View}
 use Rattle.protocol.specs.Move.{Reached}
 use Rattle.promise.specs.Setting.{settingOf}
 use Rattle.method.specs.Method.{Says}
-use Rattle.promise.specs.Tie.{pairOf, At, Means, OnWire, InSlot, opOf, Book, Tie}
+use Rattle.promise.specs.Tie.{pairOf, At, Means, OnWire, Holding, opOf, Book, Tie}
 use Rattle.promise.specs.laws.Wire.{cleared-all, sent-all, addressed-of}
 
 -- what is sent to replica k: it is the event's client's, of an operation number that this client has had, and it means something true
@@ -69,7 +69,7 @@ pub record Next (r : Rack) (e : Event) (p : Plan) (v : View) (name : ℕ → ℕ
 
 -- ---- the tie stays
 
-slot-map : (P Q : Message → Type 0) → ((m : Message) → P m → Q m) → (h : Held) → InSlot P h → InSlot Q h
+slot-map : (P Q : Message → Type 0) → ((m : Message) → P m → Q m) → (h : InSlot) → Holding P h → Holding Q h
 slot-map P Q f Empty t = t
 slot-map P Q f (Full m) t = f m t
 

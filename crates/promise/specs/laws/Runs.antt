@@ -15,8 +15,8 @@ use Rattle.rack.specs.declared.Rack.{Rack}
 use Rattle.stamps.specs.Stamp.{freshPair}
 use Rattle.method.specs.declared.Event.{Event}
 use Rattle.method.specs.declared.Plan.{Plan}
-use Rattle.method.specs.declared.Outcome.{Outcome}
-use Rattle.method.specs.declared.Outcome.the-variants.{No, Go}
+use Rattle.method.specs.declared.Decision.{Decision}
+use Rattle.method.specs.declared.Decision.the-variants.{No, Go}
 use Rattle.method.specs.Plan.{planOf}
 use Rattle.rack.specs.Places.{slotLimit, empty, idle, pairPlace, roomOf, recordOf}
 use Rattle.rack.specs.Sound.{owed, soundOf}
@@ -41,7 +41,7 @@ use Rattle.promise.specs.Tie.{Tied}
 -- ---- an event
 
 -- the plan that passed is the plan for the event
-in-go : (t : Bool) (o : Outcome) (p : Plan) → cond t o (No 3) ≡ Go p → o ≡ Go p
+in-go : (t : Bool) (o : Decision) (p : Plan) → cond t o (No 3) ≡ Go p → o ≡ Go p
 in-go true o p e = e
 in-go false o p e = absurd (let z : _≡_ {A = ℕ} 0 1 = cc in omega arith)
 
@@ -95,7 +95,7 @@ from-tied done r (suc left) (x ∷ a ∷ []) s k = k
 from-tied done r (suc left) (x ∷ a ∷ b ∷ []) s k = k
 from-tied done r (suc left) (x ∷ a ∷ b ∷ y ∷ ws) s k = go (decided r (eventOf x a b y)) refl (λ q. from-tied (done + 1) q left ws)
   where
-    go : (o : Outcome) → decided r (eventOf x a b y) ≡ o → ((q : Rack) → soundOf q ≡ true → Tied q → Tied (runFrom (done + 1) q left ws .rack))
+    go : (o : Decision) → decided r (eventOf x a b y) ≡ o → ((q : Rack) → soundOf q ≡ true → Tied q → Tied (runFrom (done + 1) q left ws .rack))
         → Tied (turn done r (eventOf x a b y) o (λ q. runFrom (done + 1) q left ws) .rack)
     go (No n) e ih = k
     go (Go p) e ih = ih (appliedOf r (eventOf x a b y) p) (sound-stays r (eventOf x a b y) p s e) (event-tied r (eventOf x a b y) p s e k)

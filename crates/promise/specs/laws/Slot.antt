@@ -6,8 +6,8 @@ use lib.ListN.{getD, set}
 use lib.Seq.{set-getD}
 use Rattle.method.specs.declared.Body.{Body}
 use Rattle.method.specs.declared.Message.{Message}
-use Rattle.method.specs.declared.Held.{Held}
-use Rattle.method.specs.declared.Held.the-variants.{Full}
+use Rattle.method.specs.declared.InSlot.{InSlot}
+use Rattle.method.specs.declared.InSlot.the-variants.{Full}
 use Rattle.rack.specs.declared.Sizes.{Sizes}
 use Rattle.rack.specs.declared.Rack.{Rack}
 use Rattle.stamps.specs.Stamp.{freshPair}
@@ -21,13 +21,13 @@ use Rattle.rack.specs.laws.Decided.{lookedHeld, lookedClient, lookedPlace, look
 use Rattle.protocol.specs.View.{Setting, View}
 use Rattle.promise.specs.Setting.{settingOf}
 use Rattle.method.specs.Method.{Got}
-use Rattle.promise.specs.Tie.{pairOf, Means, OnWire, InSlot, opOf, Tie}
+use Rattle.promise.specs.Tie.{pairOf, Means, OnWire, Holding, opOf, Tie}
 
-place-of : (h : Held) (m : Message) → h ≡ Full m → placeIn h ≡ pairPlace (m .replica .0) (m .cell .0)
+place-of : (h : InSlot) (m : Message) → h ≡ Full m → placeIn h ≡ pairPlace (m .replica .0) (m .cell .0)
 unfolding placeIn
 place-of h m e = rw e
 
-fits-of : (z : Sizes) (h : Held) (m : Message) → h ≡ Full m → heldFits z h ≡ true → Named z m
+fits-of : (z : Sizes) (h : InSlot) (m : Message) → h ≡ Full m → heldFits z h ≡ true → Named z m
 unfolding heldFits
 fits-of z h m e f = named z m (rw e at f)
 
@@ -63,7 +63,7 @@ found r e v name m b t l g =
     n = fits-of (r .sizes) (lookedHeld r e) m (g .here) (l .held)
 
     on : OnWire S v name (opOf r) m
-    on = subst (InSlot (OnWire S v name (opOf r))) (g .here) (t .wire (slotOf e))
+    on = subst (Holding (OnWire S v name (opOf r))) (g .here) (t .wire (slotOf e))
 
     at : lookedPlace r e ≡ pairPlace (m .replica .0) (m .cell .0)
     at = place-of (lookedHeld r e) m (g .here)

@@ -23,7 +23,7 @@ use Rattle.protocol.specs.laws.Place.{put-one, put-here}
 use Rattle.protocol.specs.Later.{Later}
 use Rattle.protocol.specs.laws.Growth.{same-cell}
 use Rattle.protocol.specs.laws.Stays.{tell-stays, keep-stays, kept-stays}
-use Rattle.promise.specs.Tie.{pairOf, Means, InSlot}
+use Rattle.promise.specs.Tie.{pairOf, Means, Holding}
 
 -- ---- true messages stay true
 
@@ -39,10 +39,10 @@ means-stays S v w h g o k x Kept m = kept-stays v w g o k m
 module _ (P : Message → Type 0) where
   -- P holds of every message on the wire
   abbrev All : List Slot → Type 0
-  All w = (i : ℕ) → InSlot P (heldIn w i)
+  All w = (i : ℕ) → Holding P (heldIn w i)
 
-  set-all : (w : List Slot) (j : ℕ) (s : Slot) → InSlot P (s .held) → All w → All (set w j s)
-  set-all w j s h a i = set-either (λ (x : Slot). InSlot P (x .held)) w j s empty i h (a i)
+  set-all : (w : List Slot) (j : ℕ) (s : Slot) → Holding P (s .held) → All w → All (set w j s)
+  set-all w j s h a i = set-either (λ (x : Slot). Holding P (x .held)) w j s empty i h (a i)
 
   pub cleared-all : (b : Bool) (j : ℕ) (w : List Slot) → All w → All (cleared b j w)
   unfolding cleared

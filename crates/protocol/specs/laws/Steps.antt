@@ -11,7 +11,7 @@ use Rattle.protocol.specs.Move.{Move, start, hear, choose, take, count, 
 use Rattle.protocol.specs.Move.{after}
 use Rattle.protocol.specs.Invariant.{Timed, Invariant}
 use Rattle.protocol.specs.laws.Place.{put-one, put-here}
-use Rattle.protocol.specs.Later.{Grown, Later, Next}
+use Rattle.protocol.specs.Later.{Grown, Next}
 use Rattle.protocol.specs.laws.Growth.{grown-same, grown-open, grows-put, minted-grows}
 use Rattle.protocol.specs.laws.Frame.{Change, frame}
 use Rattle.protocol.specs.laws.Pairs.{raised-is, raised-least, held-is, held-least}

@@ -9,10 +9,11 @@ use lib.ListN.{length}
 use lib.Count.{ones, ones-step}
 use lib.Dec.{eqb}
 use lib.Pow.{shr-shr, shr-lt}
-use borrow.Author.Tests.{eqb-true, eqb-false, lt-ltb}
-use Rattle.quorum.specs.Sets.{setBits, hasReplica, countOf, everyReplica, keepIf, membersFrom, membersOf}
+use borrow.Author.Tests.{eqb-true, eqb-false}
+use Rattle.quorum.specs.Sets.{hasReplica, countOf, keepIf, membersFrom, membersOf}
 use Rattle.quorum.specs.laws.Bits.{bit-is, has-one, has-zero}
-use Rattle.quorum.specs.laws.SetLaws.{has-below, has-every}
+use Rattle.quorum.specs.laws.SetLaws.{has-below}
+use Rattle.quorum.specs.Shared.{Rising}
 
 -- ---- length
 
@@ -79,18 +80,10 @@ from-member (suc n) k s j l u e = go (eqb j k) refl (hasReplica s k) refl (λ w.
 pub members-has : (n s k : ℕ) → List·Memᴰ k (membersOf n s) → hasReplica s k ≡ true
 members-has n s k m = member-from n 0 s k m .has
 
-pub members-below : (n s k : ℕ) → List·Memᴰ k (membersOf n s) → k < n
-members-below n s k m = omega (arith, member-from n 0 s k m .below)
-
 pub has-members : (n s k : ℕ) → s < 2 ^ n → hasReplica s k ≡ true → List·Memᴰ k (membersOf n s)
 has-members n s k h e = from-member n 0 s k (omega arith) (omega (arith, has-below n s k h e)) e
 
 -- ---- order
-
--- each is below all that follow it
-abbrev pub Rising : List ℕ → Type 0
-Rising [] = Unit {0}
-Rising (k ∷ ks) = ((j : ℕ) → List·Memᴰ j ks → k < j) × Rising ks
 
 rising-from : (n k s : ℕ) → Rising (membersFrom n k s)
 unfolding membersFrom
@@ -115,7 +108,3 @@ every-from : (n k s : ℕ) → ((j : ℕ) → k ≤ j → j < n + k → hasRepli
 unfolding membersFrom upFrom
 every-from zero k s h = refl
 every-from (suc n) k s h = rw (h k (omega arith) (omega arith), every-from n (k + 1) s (λ j l u. h j (omega arith) (omega arith)))
-
--- of every replica of n it is 0 to n - 1
-pub every-members : (n : ℕ) → n ≤ setBits → membersOf n (everyReplica n) ≡ upFrom n 0
-every-members n h = every-from n 0 (everyReplica n) (λ j l u. has-every n j h ∙ lt-ltb j n (omega arith))

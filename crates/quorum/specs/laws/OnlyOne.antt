@@ -52,8 +52,8 @@ not-outside r p q = yes-not-no p q
 
 -- ---- count
 
-pub one-count : (s r r′ : ℕ) → r ≡ countOf s → r′ ≡ countOf s → r ≡ r′
-one-count s r r′ p q = p ∙ sym q
+pub one-count : (s r r′ : ℕ) → (r ≡ countOf s) × (r ≤ 16) → (r′ ≡ countOf s) × (r′ ≤ 16) → r ≡ r′
+one-count s r r′ p q = p .0 ∙ sym (q .0)
 
 -- replicas 0 and 2 are two: neither the set's number nor its highest bit
 pub not-five : (r : ℕ) → r ≡ countOf 0b0101 → r ≡ 5 → ⊥
@@ -66,9 +66,12 @@ not-three r p q = let e : r ≡ 2 = p in omega arith
 
 -- ---- with
 
--- the one set that has replica k and otherwise just the members it had
-pub one-with : (s k r : ℕ) → k < setBits → ((j : ℕ) → hasReplica r j ≡ (eqb j k || hasReplica s j)) → r ≡ withReplica s k
-one-with s k r h m = same-members r (withReplica s k) (λ j. m j ∙ sym (has-with s k j h))
+pub one-with : (s k r r′ : ℕ) → r ≡ withReplica s k → r′ ≡ withReplica s k → r ≡ r′
+one-with s k r r′ p q = p ∙ sym q
+
+-- it is the one set that has replica k and otherwise just the members it had
+pub with-members : (s k r : ℕ) → k < setBits → ((j : ℕ) → hasReplica r j ≡ (eqb j k || hasReplica s j)) → r ≡ withReplica s k
+with-members s k r h m = same-members r (withReplica s k) (λ j. m j ∙ sym (has-with s k j h))
 
 -- replica 4 comes to 1 and 3: the set changes, and it isn't alone
 pub not-unchanged : (r : ℕ) → r ≡ withReplica 0b01010 4 → r ≡ 0b01010 → ⊥
@@ -93,9 +96,12 @@ not-all-gone r p q = let e : r ≡ 0b00010 = p in omega arith
 
 -- ---- every
 
--- the one set that has just the replicas below n
-pub one-every : (n r : ℕ) → n ≤ setBits → ((j : ℕ) → hasReplica r j ≡ ltb j n) → r ≡ everyReplica n
-one-every n r h m = same-members r (everyReplica n) (λ j. m j ∙ sym (has-every n j h))
+pub one-every : (n r r′ : ℕ) → r ≡ everyReplica n → r′ ≡ everyReplica n → r ≡ r′
+one-every n r r′ p q = p ∙ sym q
+
+-- it is the one set that has just the replicas below n
+pub every-members : (n r : ℕ) → n ≤ setBits → ((j : ℕ) → hasReplica r j ≡ ltb j n) → r ≡ everyReplica n
+every-members n r h m = same-members r (everyReplica n) (λ j. m j ∙ sym (has-every n j h))
 
 -- of three neither the last is missing, nor is there a fourth
 pub not-two-of-3 : (r : ℕ) → r ≡ everyReplica 3 → r ≡ 0b011 → ⊥
@@ -108,9 +114,12 @@ not-four-of-3 r p q = let e : r ≡ 0b111 = p in omega arith
 
 -- ---- others
 
--- the one set that has just the replicas below n that the set hasn't got
-pub one-others : (n s r : ℕ) → n ≤ setBits → ((j : ℕ) → hasReplica r j ≡ (ltb j n && not (hasReplica s j))) → r ≡ others n s
-one-others n s r h m = same-members r (others n s) (λ j. m j ∙ sym (has-others n s j h))
+pub one-others : (n s r r′ : ℕ) → r ≡ others n s → r′ ≡ others n s → r ≡ r′
+one-others n s r r′ p q = p ∙ sym q
+
+-- it is the one set that has just the replicas below n that the set hasn't got
+pub others-members : (n s r : ℕ) → n ≤ setBits → ((j : ℕ) → hasReplica r j ≡ (ltb j n && not (hasReplica s j))) → r ≡ others n s
+others-members n s r h m = same-members r (others n s) (λ j. m j ∙ sym (has-others n s j h))
 
 -- of five, the others of 1 and 3 are neither 1 and 3 nor all five
 pub not-themselves : (r : ℕ) → r ≡ others 5 0b01010 → r ≡ 0b01010 → ⊥

@@ -4,8 +4,7 @@ use mathlib.Core.Path.{_≡_, refl, ap, sym, _∙_}
 use mathlib.Core.Bool.{Bool, true, false, cond, not, _&&_, _||_}
 use mathlib.Core.Logic.{_⊎_, inl, inr}
 use native.Mathlib.Omega.{arith}
-use native.Mathlib.Nat.{mod-eq-of-lt}
-use lib.Bits.{bitOr, bitAnd, or-add-and, and-comm, and-mask, and-le-l, or-lt}
+use lib.Bits.{bitOr, bitAnd, or-add-and, and-le-l, or-lt}
 use lib.Count.{ones, ones-le, ones-ones}
 use lib.Dec.{ltb, eqb}
 use lib.Pow.{pow-pos, pow-lt, ones-lt}
@@ -13,7 +12,8 @@ use borrow.Author.Tests.{lt-ltb, le-ltb, ltb-true, ltb-false, eq-eqb, eqb-true, 
 use Rattle.quorum.specs.Sets.{setBits, hasReplica, withReplica, countOf, majority, asksEnough, keepsEnough, everyReplica, others, within, withoutReplica}
 use Rattle.quorum.specs.laws.Bits.{bit, bit-most, bit-none, has-one, has-zero, one-has, zero-has, or-bit, and-bit, left-bit, pow-same, pow-other, and-fresh, and-there}
 use Rattle.quorum.specs.laws.Bits.{all-below, bit-below, same-bits, ones-both, ones-left, ones-one, some-bit}
-use Rattle.quorum.specs.Shared.{Shared}
+use Rattle.quorum.specs.laws.FloatingPins.{half-is-not-enough}
+use Rattle.quorum.specs.Shared.{Shared, Least}
 
 -- the test of a set of n replicas, and what it tells
 pub within-below : (n s : ℕ) → within n s ≡ true → s < 2 ^ n
@@ -73,18 +73,6 @@ has-with s k j h = ap (λ (x : ℕ). hasReplica x j) (with-is s k h) ∙ go (eqb
 pub with-has : (s k : ℕ) → k < setBits → hasReplica (withReplica s k) k ≡ true
 with-has s k h = has-with s k k h ∙ rw (eq-eqb k k refl)
 
--- who was a member is one, and no other than the one is new
-pub with-old : (s k j : ℕ) → hasReplica s j ≡ true → hasReplica (withReplica s k) j ≡ true
-with-old s k j e = go (ltb k setBits) refl
-  where
-    either : (t : Bool) → (t || true) ≡ true
-    either true = refl
-    either false = refl
-
-    go : (t : Bool) → ltb k setBits ≡ t → hasReplica (withReplica s k) j ≡ true
-    go true q = has-with s k j (ltb-true k setBits q) ∙ rw e (either (eqb j k))
-    go false q = rw (with-beyond s k (ltb-false k setBits q)) e
-
 pub with-new : (s k j : ℕ) → hasReplica (withReplica s k) j ≡ true → (j ≡ k) ⊎ (hasReplica s j ≡ true)
 with-new s k j e = go (ltb k setBits) refl (eqb j k) refl
   where
@@ -126,9 +114,6 @@ with-below n s k h l = go (ltb k setBits) refl
     go false q = rw (with-beyond s k (ltb-false k setBits q)) h
 
 -- ---- counts
-
-pub count-within : (n s : ℕ) → s < 2 ^ n → countOf s ≤ n
-count-within n s h = ones-le n s h
 
 -- a set with a member: one of them, or none and the set is empty
 pub member : (s : ℕ) → 0 < countOf s → (k : ℕ) × (hasReplica s k ≡ true)
@@ -181,37 +166,21 @@ meet n a b ha hb ea eb =
 
 -- ---- what is enough
 
--- a count of k is enough for a majority of n, and less is not
-pub record Least (n k : ℕ) : Type 0 where
-  pub enough : (s : ℕ) → k ≤ countOf s → majority n s ≡ true
-  pub fewer : (s : ℕ) → countOf s < k → majority n s ≡ false
-
 pub least : (n : ℕ) → Least n (n / 2 + 1)
 least n = record { enough = λ s h. count-majority n s (omega arith); fewer = λ s h. count-minority n s (omega arith) }
 
 -- no replica is never enough
 pub none-asks : (n : ℕ) → 1 ≤ n → asksEnough n 0 ≡ false
-unfolding asksEnough
-none-asks n h = count-minority n 0 (omega (arith, none-count))
+none-asks n h = half-is-not-enough n 0 (omega (arith, none-count)) .0
 
 pub none-keeps : (n : ℕ) → 1 ≤ n → keepsEnough n 0 ≡ false
-unfolding keepsEnough
-none-keeps n h = count-minority n 0 (omega (arith, none-count))
+none-keeps n h = half-is-not-enough n 0 (omega (arith, none-count)) .1
 
 pub none-has : (k : ℕ) → hasReplica 0 k ≡ false
 none-has k = zero-has 0 k (bit-none k)
 
 pub none-within : (n : ℕ) → 0 < 2 ^ n
 none-within n = pow-pos n
-
--- what was enough stays so with one replica more
-pub asks-more : (n s k : ℕ) → asksEnough n s ≡ true → asksEnough n (withReplica s k) ≡ true
-unfolding asksEnough
-asks-more n s k e = count-majority n (withReplica s k) (omega (arith, majority-count n s e, with-count s k))
-
-pub keeps-more : (n s k : ℕ) → keepsEnough n s ≡ true → keepsEnough n (withReplica s k) ≡ true
-unfolding keepsEnough
-keeps-more n s k e = count-majority n (withReplica s k) (omega (arith, majority-count n s e, with-count s k))
 
 -- ---- every replica, and the others
 
@@ -224,14 +193,6 @@ every-below n h = rw (every-is n h) (ones-lt n)
 
 pub every-count : (n : ℕ) → n ≤ setBits → countOf (everyReplica n) ≡ n
 every-count n h = ap ones (every-is n h) ∙ ones-ones n
-
-pub every-asks : (n : ℕ) → 1 ≤ n → n ≤ setBits → asksEnough n (everyReplica n) ≡ true
-unfolding asksEnough
-every-asks n l h = count-majority n (everyReplica n) (omega (arith, every-count n h))
-
-pub every-keeps : (n : ℕ) → 1 ≤ n → n ≤ setBits → keepsEnough n (everyReplica n) ≡ true
-unfolding keepsEnough
-every-keeps n l h = count-majority n (everyReplica n) (omega (arith, every-count n h))
 
 every-bit : (n k : ℕ) → n ≤ setBits → k < n → bit (everyReplica n) k ≡ 1
 every-bit n k h l = rw (every-is n h) (all-below n k l)
@@ -259,12 +220,6 @@ has-others n s k h = go (ltb k n) refl (hasReplica s k) refl
 pub others-below : (n s : ℕ) → n ≤ setBits → others n s < 2 ^ n
 unfolding others
 others-below n s h = omega (arith, every-below n h)
-
-pub others-count : (n s : ℕ) → n ≤ setBits → s < 2 ^ n → countOf (others n s) + countOf s ≡ n
-unfolding others
-others-count n s h l =
-    let e : bitAnd (everyReplica n) s ≡ s = rw (every-is n h) (and-comm (2 ^ n - 1) s ∙ and-mask s n ∙ mod-eq-of-lt l) in
-    omega (arith, ones-left (everyReplica n) s, every-count n h, ap ones e)
 
 -- ---- one replica less
 

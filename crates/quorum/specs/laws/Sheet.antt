@@ -4,7 +4,8 @@ use mathlib.Core.Bool.{true, false}
 use mathlib.Core.Path.{_≡_, refl}
 use lib.Count.{ones}
 use Rattle.quorum.specs.Sets.{hasReplica, withReplica, setBits, asksEnough, keepsEnough, majority, everyReplica, others, within, membersOf, membersFrom}
-use Rattle.quorum.specs.laws.SetLaws.{Least, least}
+use Rattle.quorum.specs.Shared.{Least}
+use Rattle.quorum.specs.laws.SetLaws.{least}
 
 pub one-of-1 : Least 1 1
 one-of-1 = least 1

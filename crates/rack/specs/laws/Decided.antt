@@ -9,8 +9,8 @@ use lib.Count.{ones}
 use borrow.Author.Tests.{ltb-true, ltb-false}
 use Rattle.record.specs.Record.{entryLimit}
 use Rattle.stamps.specs.declared.Pair.{Pair}
-use Rattle.method.specs.declared.Held.{Held}
-use Rattle.method.specs.declared.Held.the-variants.{Empty, Full}
+use Rattle.method.specs.declared.InSlot.{InSlot}
+use Rattle.method.specs.declared.InSlot.the-variants.{Empty, Full}
 use Rattle.method.specs.declared.Party.{Party}
 use Rattle.rack.specs.declared.Sizes.{Sizes}
 use Rattle.rack.specs.declared.Rack.{Rack}
@@ -21,8 +21,8 @@ use Rattle.method.specs.declared.Event.the-variants.{StartRead, StartWrite, Del
 use Rattle.method.specs.declared.Note.{Note}
 use Rattle.method.specs.declared.Note.the-variants.{Nothing, Asked, Ended}
 use Rattle.method.specs.declared.Plan.{Plan}
-use Rattle.method.specs.declared.Outcome.{Outcome}
-use Rattle.method.specs.declared.Outcome.the-variants.{No, Go}
+use Rattle.method.specs.declared.Decision.{Decision}
+use Rattle.method.specs.declared.Decision.the-variants.{No, Go}
 use Rattle.method.specs.Plan.{planOf}
 use Rattle.rack.specs.Places.{slotLimit, partyAt, heldAt, roomOf}
 use Rattle.rack.specs.Sound.{pairFits, heldFits, workFits, owedBy, owed, soundOf}
@@ -35,7 +35,7 @@ use Rattle.rack.specs.laws.PlanLaws.{keptFor, PlanFits, OutcomeFits, pla
 -- ---- what an event looks at
 
 -- what the slot that it names holds
-abbrev pub lookedHeld : Rack → Event → Held
+abbrev pub lookedHeld : Rack → Event → InSlot
 lookedHeld r e = heldAt r (slotOf e)
 
 -- its client: the one that it names, else its message's
@@ -80,12 +80,12 @@ slot-in z (Off replica) h = omega arith
 slot-in z (On replica) h = omega arith
 slot-in z Unknown h = omega arith
 
-client-in : (z : Sizes) → Sized z → (held : Held) → heldFits z held ≡ true → clientIn held < z .clients
+client-in : (z : Sizes) → Sized z → (held : InSlot) → heldFits z held ≡ true → clientIn held < z .clients
 unfolding clientIn heldFits
 client-in z n Empty h = n .some-client
 client-in z n (Full m) h = named z m h .client
 
-client-of : (z : Sizes) → Sized z → (held : Held) → heldFits z held ≡ true → (e : Event) → inRack z e ≡ true → clientOf e held < z .clients
+client-of : (z : Sizes) → Sized z → (held : InSlot) → heldFits z held ≡ true → (e : Event) → inRack z e ≡ true → clientOf e held < z .clients
 unfolding inRack clientOf
 client-of z n held h (StartRead client cell) i = ltb-true (client .0) (z .clients) (and-left (ltb (client .0) (z .clients)) (ltb (cell .0) (z .cells)) i)
 client-of z n held h (StartWrite client cell v) i = ltb-true (client .0) (z .clients) (and-left (ltb (client .0) (z .clients)) (ltb (cell .0) (z .cells)) i)
@@ -98,12 +98,12 @@ client-of z n held h (Off replica) i = n .some-client
 client-of z n held h (On replica) i = n .some-client
 client-of z n held h Unknown i = n .some-client
 
-place-in : (z : Sizes) → Sized z → (held : Held) → heldFits z held ≡ true → placeIn held < 240
+place-in : (z : Sizes) → Sized z → (held : InSlot) → heldFits z held ≡ true → placeIn held < 240
 unfolding placeIn heldFits
 place-in z n Empty h = omega arith
 place-in z n (Full m) h = let q = named z m h in omega (arith, q .replica, q .cell, n .replicas, n .cells)
 
-pair-in : (r : Rack) → Sound r → (held : Held) → heldFits (r .sizes) held ≡ true → pairFits (r .sizes) (getD (r .pairs) (placeIn held) freshPair) ≡ true
+pair-in : (r : Rack) → Sound r → (held : InSlot) → heldFits (r .sizes) held ≡ true → pairFits (r .sizes) (getD (r .pairs) (placeIn held) freshPair) ≡ true
 unfolding placeIn heldFits
 pair-in r s Empty h = s .pairs 0 0 (s .sizes .some-replica) (s .sizes .some-cell)
 pair-in r s (Full m) h = let q = named (r .sizes) m h in s .pairs (m .replica .0) (m .cell .0) (q .replica) (q .cell)
@@ -128,7 +128,7 @@ sent-go : (t : Bool) (q p : Plan) → cond t (No 13) (Go q) ≡ Go p → (t ≡ 
 sent-go true q p e = absurd (let z : _≡_ {A = ℕ} 0 1 = cc in omega arith)
 sent-go false q p e = (refl, cc)
 
-noted-go : (n : Note) (taken : ℕ) (o : Outcome) (p : Plan) → taken ≤ entryLimit → noted n taken o ≡ Go p → (o ≡ Go p) × (taken + keptFor n ≤ entryLimit)
+noted-go : (n : Note) (taken : ℕ) (o : Decision) (p : Plan) → taken ≤ entryLimit → noted n taken o ≡ Go p → (o ≡ Go p) × (taken + keptFor n ≤ entryLimit)
 unfolding noted
 noted-go Nothing taken o p h e = (e, omega arith)
 noted-go (Ended x) taken o p h e = (e, omega arith)
@@ -139,12 +139,12 @@ noted-go (Asked x) taken o p h e = go (ltb entryLimit (taken + 2)) refl e
     go false q w = (w, ltb-false entryLimit (taken + 2) q)
 
 -- the plan p passes 11 and 13: the record has room for its entries and the wire has slots for its messages
-pub record Passed (o : Outcome) (taken free : ℕ) (p : Plan) : Type 0 where
+pub record Passed (o : Decision) (taken free : ℕ) (p : Plan) : Type 0 where
   pub same : o ≡ Go p
   pub entries : taken + keptFor (p .note) ≤ entryLimit
   pub room : ones (p .to) ≤ free + freed (p .clear)
 
-pub checked-go : (o : Outcome) (taken room : ℕ) (p : Plan) → taken ≤ entryLimit → checked o taken room ≡ Go p → Passed o taken room p
+pub checked-go : (o : Decision) (taken room : ℕ) (p : Plan) → taken ≤ entryLimit → checked o taken room ≡ Go p → Passed o taken room p
 unfolding checked
 checked-go (No k) taken room p h e = absurd (let z : _≡_ {A = ℕ} 0 1 = cc in omega arith)
 checked-go (Go q) taken room p h e =
@@ -164,7 +164,7 @@ pub record Decided (r : Rack) (e : Event) (p : Plan) : Type 0 where
   pub room : ones (p .to) ≤ roomOf (r .wire) + freed (p .clear)
 
 -- the plan that passed is the plan for the event
-in-go : (t : Bool) (o : Outcome) (p : Plan) → cond t o (No 3) ≡ Go p → (t ≡ true) × (o ≡ Go p)
+in-go : (t : Bool) (o : Decision) (p : Plan) → cond t o (No 3) ≡ Go p → (t ≡ true) × (o ≡ Go p)
 in-go true o p e = (refl, e)
 in-go false o p e = absurd (let z : _≡_ {A = ℕ} 0 1 = cc in omega arith)
 

@@ -1,5 +1,5 @@
 -- What four words mean, soundness and the maker: no other outcome fits a call, and wrong ones do not meet its contract.
-use Prim.Native.Nat.{ℕ}
+use Prim.Native.Nat.{ℕ, _≤_}
 use mathlib.Core.Path.{_≡_, refl, ap, sym, _∙_}
 use mathlib.Core.Bool.{Bool, true, false}
 use mathlib.Core.List.{[], _∷_}
@@ -9,11 +9,12 @@ use lib.IntN.{negsuc}
 use Rattle.number.specs.Value.{alternatingOf, signedOf}
 use Rattle.quorum.specs.Sets.{majority, asksEnough, within}
 use Rattle.method.specs.declared.Body.the-variants.{Keep, Kept}
-use Rattle.method.specs.declared.Held.the-variants.{Empty, Full}
+use Rattle.method.specs.declared.InSlot.the-variants.{Empty, Full}
+use Rattle.method.specs.declared.Party.{Party}
 use Rattle.method.specs.declared.Event.{Event}
 use Rattle.method.specs.declared.Event.the-variants.{StartRead, StartWrite, Deliver, Lose, Copy, Resend, Stop, Off, On, Unknown}
 use Rattle.rack.specs.declared.Made.{Made}
-use Rattle.method.specs.Plan.{partyAt}
+use Rattle.method.specs.Plan.{activeParty}
 use Rattle.rack.specs.Places.{idle}
 use Rattle.rack.specs.Sound.{sizesFit, pairFits, bodyFits, messageFits, heldFits, workFits, owes, owedBy, soundOf, owedIn}
 use Rattle.rack.specs.Run.{freshRack, madeOf, byte, eventOf}
@@ -105,20 +106,23 @@ not-one-unfit r p q = yes-not-no p q
 
 -- ---- owed_by, owed_by_all
 
+pub one-owed : (party : Party) (r r′ : ℕ) → (r ≡ owedBy party) × (r ≤ 1) → (r′ ≡ owedBy party) × (r′ ≤ 1) → r ≡ r′
+one-owed party r r′ p q = p .0 ∙ sym (q .0)
+
 pub not-owed-stopped : (r : ℕ) → r ≡ owedBy stopped → r ≡ 1 → ⊥
 unfolding owedBy
 not-owed-stopped r p q = omega arith
 
-pub not-free-asking : (r : ℕ) → r ≡ owedBy (partyAt 1 (told 0b001)) → r ≡ 0 → ⊥
+pub not-free-asking : (r : ℕ) → r ≡ owedBy (activeParty 1 (told 0b001)) → r ≡ 0 → ⊥
 unfolding owedBy owes
 not-free-asking r p q = omega arith
 
 -- of one that asks, one that is idle and one that is stopped, one answer is owed
-pub not-all-owe : (r : ℕ) → r ≡ owedIn 3 (partyAt 1 (told 0b001) ∷ idle ∷ stopped ∷ []) → r ≡ 3 → ⊥
+pub not-all-owe : (r : ℕ) → r ≡ owedIn 3 (activeParty 1 (told 0b001) ∷ idle ∷ stopped ∷ []) → r ≡ 3 → ⊥
 unfolding owedIn owedBy owes
 not-all-owe r p q = let e : r ≡ 1 = p in omega arith
 
-pub not-none-owes : (r : ℕ) → r ≡ owedIn 3 (partyAt 1 (told 0b001) ∷ idle ∷ stopped ∷ []) → r ≡ 0 → ⊥
+pub not-none-owes : (r : ℕ) → r ≡ owedIn 3 (activeParty 1 (told 0b001) ∷ idle ∷ stopped ∷ []) → r ≡ 0 → ⊥
 unfolding owedIn owedBy owes
 not-none-owes r p q = let e : r ≡ 1 = p in omega arith
 

@@ -17,8 +17,8 @@ use Rattle.stamps.specs.declared.Pair.{Pair}
 use Rattle.method.specs.declared.Body.{Body}
 use Rattle.method.specs.declared.Body.the-variants.{Ask, Tell, Keep, Kept}
 use Rattle.method.specs.declared.Message.{Message}
-use Rattle.method.specs.declared.Held.{Held}
-use Rattle.method.specs.declared.Held.the-variants.{Empty, Full}
+use Rattle.method.specs.declared.InSlot.{InSlot}
+use Rattle.method.specs.declared.InSlot.the-variants.{Empty, Full}
 use Rattle.method.specs.declared.Goal.{Goal}
 use Rattle.method.specs.declared.Goal.the-variants.{Read, Write}
 use Rattle.method.specs.declared.Work.{Work}
@@ -32,8 +32,8 @@ use Rattle.method.specs.declared.Event.the-variants.{StartRead, StartWrite, Del
 use Rattle.method.specs.declared.Note.{Note}
 use Rattle.method.specs.declared.Note.the-variants.{Nothing, Asked, Ended}
 use Rattle.method.specs.declared.Plan.{Plan}
-use Rattle.method.specs.declared.Outcome.{Outcome}
-use Rattle.method.specs.declared.Outcome.the-variants.{No, Go}
+use Rattle.method.specs.declared.Decision.{Decision}
+use Rattle.method.specs.declared.Decision.the-variants.{No, Go}
 use Rattle.method.specs.Plan.{messageOf, planned, usedUp, answered, started, startIn, startOf, askOf, keepOf, current, keepsOf, written, phaseEnds, holds, tellCounts, tellIn}
 use Rattle.method.specs.Plan.{tellOf, keptCounts, keptIn, keptOf, deliverIn, deliverOf, copyOf, resendIn, resendOf, stopOf, powered, offOf, onOf, ofSlot, planOf}
 use Rattle.rack.specs.Places.{isEmpty}
@@ -49,7 +49,7 @@ keptFor (Asked e) = 2
 keptFor (Ended e) = 0
 
 -- a plan in a rack of sizes z, for an event that looked at a client and a slot
-pub record PlanFits (z : Sizes) (party : Party) (held : Held) (p : Plan) : Type 0 where
+pub record PlanFits (z : Sizes) (party : Party) (held : InSlot) (p : Plan) : Type 0 where
   pub work : workFits z (p .party .work) ≡ true
   pub pair : pairFits z (p .pair) ≡ true
   pub to : within (z .replicas) (p .to) ≡ true
@@ -58,11 +58,11 @@ pub record PlanFits (z : Sizes) (party : Party) (held : Held) (p : Plan) : Type 
   pub slot : p .clear ≡ true → isEmpty held ≡ false
 
 -- what holds of an outcome: of a refusal nothing, of a plan that it fits
-abbrev pub OutcomeFits : Sizes → Party → Held → Outcome → Type 0
+abbrev pub OutcomeFits : Sizes → Party → InSlot → Decision → Type 0
 OutcomeFits z party held (No k) = Unit {0}
 OutcomeFits z party held (Go p) = PlanFits z party held p
 
-no-slot : (held : Held) → false ≡ true → isEmpty held ≡ false
+no-slot : (held : InSlot) → false ≡ true → isEmpty held ≡ false
 no-slot held e = never e
 
 -- what is sent, whoever it goes to
@@ -111,7 +111,7 @@ module _ (z : Sizes) (n : Sized z) (power : ℕ) (party : Party) (pair : Pair) (
 
   -- ---- start
 
-  started-fits : (held : Held) (op : ℕ) (client : Client) (cell : Cell) (goal : Goal) (entry : Entry) → client .0 < z .clients → cell .0 < z .cells
+  started-fits : (held : InSlot) (op : ℕ) (client : Client) (cell : Cell) (goal : Goal) (entry : Entry) → client .0 < z .clients → cell .0 < z .cells
       → OutcomeFits z party held (started seen op client cell goal entry)
   unfolding started entriesIn owedBy owes bodyFits
   started-fits held op client cell goal entry hc hx =
@@ -124,7 +124,7 @@ module _ (z : Sizes) (n : Sized z) (power : ℕ) (party : Party) (pair : Pair) (
         slot = no-slot held;
       }
 
-  start-fits : (held : Held) (client : Client) (cell : Cell) (goal : Goal) (entry : Entry) → client .0 < z .clients → cell .0 < z .cells
+  start-fits : (held : InSlot) (client : Client) (cell : Cell) (goal : Goal) (entry : Entry) → client .0 < z .clients → cell .0 < z .cells
       → OutcomeFits z party held (startOf seen client cell goal entry)
   unfolding startOf startIn
   start-fits held client cell goal entry hc hx = either (OutcomeFits z party held) (party .stopped) _ _ (λ e. tt) (λ e. go (party .work))
@@ -285,7 +285,7 @@ module _ (z : Sizes) (n : Sized z) (power : ℕ) (party : Party) (pair : Pair) (
 
   -- ---- resend, stop, power
 
-  again-fits : (held : Held) (client : Client) (cell : Cell) (set : ℕ) (body : Body) → client .0 < z .clients → cell .0 < z .cells → bodyFits z body ≡ true
+  again-fits : (held : InSlot) (client : Client) (cell : Cell) (set : ℕ) (body : Body) → client .0 < z .clients → cell .0 < z .cells → bodyFits z body ≡ true
       → OutcomeFits z party held (planned seen party false Nothing (messageOf client (record { 0 = 0 }) cell (party .op) body) (others (z .replicas) set))
   unfolding entriesIn
   again-fits held client cell set body hc hx hb =
@@ -298,7 +298,7 @@ module _ (z : Sizes) (n : Sized z) (power : ℕ) (party : Party) (pair : Pair) (
         slot = no-slot held;
       }
 
-  resend-fits : (held : Held) (client : Client) → client .0 < z .clients → OutcomeFits z party held (resendOf seen client)
+  resend-fits : (held : InSlot) (client : Client) → client .0 < z .clients → OutcomeFits z party held (resendOf seen client)
   unfolding resendOf resendIn bodyFits
   resend-fits held client hc = either (OutcomeFits z party held) (party .stopped) _ _ (λ e. tt) (λ e. go (party .work) work)
     where
@@ -313,19 +313,19 @@ module _ (z : Sizes) (n : Sized z) (power : ℕ) (party : Party) (pair : Pair) (
   unfolding bodyFits
   nothing-sent k hk = sends z (record { 0 = 0 }) (record { 0 = 0 }) 0 Ask (n .some-client) (n .some-cell) refl k hk
 
-  stop-fits : (held : Held) → OutcomeFits z party held (stopOf seen)
+  stop-fits : (held : InSlot) → OutcomeFits z party held (stopOf seen)
   unfolding stopOf entriesIn owedBy
   stop-fits held =
       either (OutcomeFits z party held) (party .stopped) _ _ (λ e. tt)
       (λ e. record { work = work; pair = here; to = to-none; message = nothing-sent; entries = omega arith; slot = no-slot held })
 
-  powered-fits : (held : Held) (after : ℕ) → OutcomeFits z party held (powered seen after)
+  powered-fits : (held : InSlot) (after : ℕ) → OutcomeFits z party held (powered seen after)
   unfolding powered entriesIn
   powered-fits held after = record { work = work; pair = here; to = to-none; message = nothing-sent; entries = omega arith; slot = no-slot held }
 
   -- ---- every event
 
-  pub plan-fits : (held : Held) → heldFits z held ≡ true → (e : Event) → inRack z e ≡ true → OutcomeFits z party held (planOf seen held e)
+  pub plan-fits : (held : InSlot) → heldFits z held ≡ true → (e : Event) → inRack z e ≡ true → OutcomeFits z party held (planOf seen held e)
   unfolding planOf ofSlot inRack heldFits offOf onOf
   plan-fits held hh (StartRead client cell) i =
       start-fits held client cell _ _ (ltb-true (client .0) (z .clients) (and-left (ltb (client .0) (z .clients)) (ltb (cell .0) (z .cells)) i)) (ltb-true (cell .0) (z .cells) (and-right (ltb (client .0) (z .clients)) (ltb (cell .0) (z .cells)) i))

@@ -15,8 +15,8 @@ use Rattle.stamps.specs.declared.Pair.{Pair}
 use Rattle.method.specs.declared.Body.{Body}
 use Rattle.method.specs.declared.Body.the-variants.{Ask, Tell, Keep, Kept}
 use Rattle.method.specs.declared.Message.{Message}
-use Rattle.method.specs.declared.Held.{Held}
-use Rattle.method.specs.declared.Held.the-variants.{Empty, Full}
+use Rattle.method.specs.declared.InSlot.{InSlot}
+use Rattle.method.specs.declared.InSlot.the-variants.{Empty, Full}
 use Rattle.method.specs.declared.Goal.{Goal}
 use Rattle.method.specs.declared.Goal.the-variants.{Read, Write}
 use Rattle.method.specs.declared.Work.{Work}
@@ -28,8 +28,8 @@ use Rattle.method.specs.declared.Event.the-variants.{StartRead, StartWrite, Del
 use Rattle.method.specs.declared.Note.{Note}
 use Rattle.method.specs.declared.Note.the-variants.{Nothing, Asked, Ended}
 use Rattle.method.specs.declared.Plan.{Plan}
-use Rattle.method.specs.declared.Outcome.{Outcome}
-use Rattle.method.specs.declared.Outcome.the-variants.{No, Go}
+use Rattle.method.specs.declared.Decision.{Decision}
+use Rattle.method.specs.declared.Decision.the-variants.{No, Go}
 use Rattle.method.specs.Plan.{started, startIn, startOf, askOf, keepOf, current, keepsOf, phaseEnds, holds, tellCounts, tellIn, tellOf, keptCounts, keptIn, keptOf, deliverIn}
 use Rattle.method.specs.Plan.{deliverOf, copyOf, resendIn, resendOf, stopOf, powered, offOf, onOf, ofSlot, planOf}
 use Rattle.rack.specs.Places.{roomOf}
@@ -45,7 +45,7 @@ abbrev pub PlanRefusal : ℕ → Type 0
 PlanRefusal k = ((3 ≤ k) × (k ≤ 10)) ⊎ (k ≡ 12)
 
 -- an outcome that is a refusal has one of these numbers
-abbrev Refuses : Outcome → Type 0
+abbrev Refuses : Decision → Type 0
 Refuses (No k) = PlanRefusal k
 Refuses (Go p) = Unit {0}
 
@@ -95,7 +95,7 @@ resend-in Idle s client = low 7 (omega arith) (omega arith)
 resend-in (Asking cell goal set held) s client = tt
 resend-in (Keeping cell goal set held) s client = tt
 
-plan : (s : Sight) (held : Held) (e : Event) → Refuses (planOf s held e)
+plan : (s : Sight) (held : InSlot) (e : Event) → Refuses (planOf s held e)
 unfolding planOf ofSlot deliverOf copyOf resendOf stopOf offOf onOf powered
 plan s held (StartRead client cell) = start s client cell _ _
 plan s held (StartWrite client cell v) = start s client cell _ _
@@ -111,7 +111,7 @@ plan s held (Off replica) = whichever Refuses (hasReplica (s .power) (replica .0
 plan s held (On replica) = whichever Refuses (hasReplica (s .power) (replica .0)) _ _ (low 9 (omega arith) (omega arith)) tt
 plan s held Unknown = low 3 (omega arith) (omega arith)
 
-pub plan-refuses : (s : Sight) (held : Held) (e : Event) (k : ℕ) → planOf s held e ≡ No k → PlanRefusal k
+pub plan-refuses : (s : Sight) (held : InSlot) (e : Event) (k : ℕ) → planOf s held e ≡ No k → PlanRefusal k
 plan-refuses s held e k q = subst Refuses q (plan s held e)
 
 -- ---- 11 and 13
@@ -120,7 +120,7 @@ sent-no : (t : Bool) (p : Plan) (k : ℕ) → cond t (No 13) (Go p) ≡ No k →
 sent-no true p k e = cc
 sent-no false p k e = absurd (let z : _≡_ {A = ℕ} 0 1 = cc in omega arith)
 
-noted-no : (n : Note) (taken : ℕ) (o : Outcome) (k : ℕ) → noted n taken o ≡ No k → (k ≡ 11) ⊎ (o ≡ No k)
+noted-no : (n : Note) (taken : ℕ) (o : Decision) (k : ℕ) → noted n taken o ≡ No k → (k ≡ 11) ⊎ (o ≡ No k)
 unfolding noted
 noted-no Nothing taken o k e = inr e
 noted-no (Ended x) taken o k e = inr e
@@ -130,7 +130,7 @@ noted-no (Asked x) taken o k e = go (ltb entryLimit (taken + 2)) e
     go true w = inl (cc)
     go false w = inr w
 
-pub checked-refuses : (o : Outcome) (taken room k : ℕ) → checked o taken room ≡ No k → (o ≡ No k) ⊎ ((k ≡ 11) ⊎ (k ≡ 13))
+pub checked-refuses : (o : Decision) (taken room k : ℕ) → checked o taken room ≡ No k → (o ≡ No k) ⊎ ((k ≡ 11) ⊎ (k ≡ 13))
 unfolding checked
 checked-refuses (No j) taken room k e = inl e
 checked-refuses (Go p) taken room k e =

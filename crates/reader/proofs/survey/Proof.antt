@@ -48,7 +48,7 @@ use denote.Triple.Table.{entered, cited}
 use denote.Triple.Walked.{says, Stays, stay-none-slice, walkOf, goes-none-slice, Walks, ends-at, walked, walk-meets}
 use denote.Exit.{yes}
 use Rattle.record.specs.Entry.{entryAt}
-use Rattle.record.specs.Record.{recordOf, surveyOf}
+use Rattle.record.specs.Record.{bytesHeld, surveyOf}
 use Rattle.record.specs.declared.Found.{Found}
 use Rattle.record.specs.declared.Answer.{Answer}
 use Rattle.reader.specs.declared.ReadingHead.{ReadingHead}
@@ -254,7 +254,7 @@ module _ {M : Type 1} (𝓤 : URA M) (H : Heap 𝓤) (A : Atoms 𝓤) (W : Given
   said-after : (p : Progress) (r : Found) (z : Progress) → ent 𝓤 (AfterSays p r z) (fact 𝓤 (z ≡ afterFound p r))
   said-after p r z = exE 𝓤 _ (λ ws. snd∗ 𝓤 (sem 𝓤 H A (lasts after.ended tt (p, (r, tt)) ws)) (fact 𝓤 (z ≡ afterFound p r)))
 
-  exits : (r : Answer) (u : Val) → Is R.the-row r (u ∷ []) → r ≡ surveyOf (recordOf bytes) → ent 𝓤 (⋆ 𝓤 H A (‵ (flft κ q) ∷ ‵ Own ∷ [])) (Post u)
+  exits : (r : Answer) (u : Val) → Is R.the-row r (u ∷ []) → r ≡ surveyOf (bytesHeld bytes) → ent 𝓤 (⋆ 𝓤 H A (‵ (flft κ q) ∷ ‵ Own ∷ [])) (Post u)
   exits r u is e =
       qed W (‵ (flft κ q) ∷ ‵ Own ∷ []) ∵
       suffices ! _ (ends-at 𝓤 H A survey.ended stayed (survey.clauses 𝓤 H A at-mem run) W (((κ, tt), (q, tt), tt, x, vs), tt) u r (tt, tt) (tt, tt)) $ says ! e $

@@ -12,7 +12,7 @@ use Rattle.record.specs.declared.Found.{Found}
 use Rattle.record.specs.declared.Found.the-variants.{At, Fault}
 use Rattle.record.specs.declared.Answer.the-variants.{All, Refused}
 use Rattle.record.specs.Entry.{entryAt}
-use Rattle.record.specs.Record.{entryLimit, faultAfter, standingAfter, recordOf, surveyOf}
+use Rattle.record.specs.Record.{entryLimit, faultAfter, standingAfter, bytesHeld, surveyOf}
 use Rattle.record.specs.laws.Refusals.{entry-faults}
 use Rattle.record.specs.laws.Steps.{Counting, tally, survey-tally, counts-end, counts-full, counts-unread, counts-misplaced, counts-on}
 use Rattle.reader.specs.declared.Progress.{Progress}
@@ -46,15 +46,15 @@ module _ (p : Progress) where
 
 -- while nothing stopped it, what is held from the place on, with the entries taken, is what is held in all; once stopped, its answer is the answer
 pub record Surveying (s : List ℕ) (place : ℕ) (p : Progress) : Type 0 where
-  pub goes : p .fault ≡ 0 → Counting (λ i. ltb i (length s)) (entryAt s) (λ e. 1) (recordOf s) place (p .taken) (p .taken) (p .standing)
-  pub stays : (p .fault ≡ 0 → ⊥) → Refused (p .fault) (p .taken) ≡ tally (λ e. 1) 0 (recordOf s)
+  pub goes : p .fault ≡ 0 → Counting (λ i. ltb i (length s)) (entryAt s) (λ e. 1) (bytesHeld s) place (p .taken) (p .taken) (p .standing)
+  pub stays : (p .fault ≡ 0 → ⊥) → Refused (p .fault) (p .taken) ≡ tally (λ e. 1) 0 (bytesHeld s)
 
 -- how many turns may follow at most
 unfoldable pub turnsLeft : Progress → ℕ
 turnsLeft p = cond (eqb (p .fault) 0) (entryLimit + 1 - p .taken) 0
 
 pub survey-begins : (s : List ℕ) → Surveying s 0 begun
-unfolding recordOf
+unfolding bytesHeld
 survey-begins s = record { goes = λ _. record { left = entryLimit; limit = refl; same = refl }; stays = λ h. absurd (h refl) }
 
 -- an entry is due: nothing stopped the survey, and something stands at the place
@@ -71,14 +71,14 @@ pub record Turned (s : List ℕ) (place : ℕ) (p p′ : Progress) : Type 0 wher
   pub after : Surveying s place p′
   pub fewer : turnsLeft p′ < turnsLeft p
 
-module _ (s : List ℕ) (place : ℕ) (p : Progress) (c : Counting (λ i. ltb i (length s)) (entryAt s) (λ e. 1) (recordOf s) place (p .taken) (p .taken) (p .standing))
+module _ (s : List ℕ) (place : ℕ) (p : Progress) (c : Counting (λ i. ltb i (length s)) (entryAt s) (λ e. 1) (bytesHeld s) place (p .taken) (p .taken) (p .standing))
     (none : p .fault ≡ 0) (more : ltb place (length s) ≡ true) where
   turns : turnsLeft p ≡ entryLimit + 1 - p .taken
   unfolding turnsLeft
   turns = simp (eq-eqb _ _ none)
 
   -- the survey stops
-  stops : (next k : ℕ) → (k ≡ 0 → ⊥) → Refused k (p .taken) ≡ tally (λ e. 1) 0 (recordOf s) → Turned s next p (stopped p k)
+  stops : (next k : ℕ) → (k ≡ 0 → ⊥) → Refused k (p .taken) ≡ tally (λ e. 1) 0 (bytesHeld s) → Turned s next p (stopped p k)
   unfolding turnsLeft
   stops next k h q = record { after = record { goes = λ z. absurd (h z); stays = λ _. q }; fewer = omega (arith, turns, left-none, c .limit) }
     where
@@ -127,10 +127,10 @@ pub survey-turns : (s : List ℕ) (place : ℕ) (p : Progress) → Surveying s p
 survey-turns s place p i h = let d = due p place (length s) h in turn s place p (i .goes (d .0)) (d .0) (d .1)
 
 -- when none is due, the answer is what the bytes hold
-pub survey-ends : (s : List ℕ) (place : ℕ) (p : Progress) → Surveying s place p → goesOn p place (length s) ≡ false → answerOf p ≡ surveyOf (recordOf s)
+pub survey-ends : (s : List ℕ) (place : ℕ) (p : Progress) → Surveying s place p → goesOn p place (length s) ≡ false → answerOf p ≡ surveyOf (bytesHeld s)
 unfolding goesOn answerOf
 survey-ends s place p i h = go (eqb (p .fault) 0) refl h
   where
-    go : (t : Bool) → eqb (p .fault) 0 ≡ t → t && ltb place (length s) ≡ false → cond t (All (p .taken)) (Refused (p .fault) (p .taken)) ≡ surveyOf (recordOf s)
+    go : (t : Bool) → eqb (p .fault) 0 ≡ t → t && ltb place (length s) ≡ false → cond t (All (p .taken)) (Refused (p .fault) (p .taken)) ≡ surveyOf (bytesHeld s)
     go true e q = counts-end _ _ _ _ _ _ _ _ (i .goes (eqb-true _ _ e)) q ∙ sym (survey-tally _)
     go false e q = i .stays (eqb-false _ _ e) ∙ sym (survey-tally _)

@@ -15,7 +15,7 @@ use Rattle.record.specs.declared.Standing.{Standing}
 use Rattle.record.specs.declared.Answer.{Answer}
 use Rattle.record.specs.declared.Answer.the-variants.{All, Refused}
 use Rattle.record.specs.Entry.{entryBytes, upTo, fieldsAt, entryAt}
-use Rattle.record.specs.Record.{fresh, openBy, opened, faultAfter, standingAfter, recordOf, surveyOf}
+use Rattle.record.specs.Record.{fresh, openBy, opened, faultAfter, standingAfter, bytesHeld, surveyOf}
 use Rattle.record.specs.Answers.{foundRefusal, foundNext, foundBytes, refusalIn, entryIn, countIn}
 use Rattle.record.specs.Examples.{sheetBytes}
 use Rattle.record.specs.laws.Sheet.{sheet-reads, client-8, cell-16, done-short, second-faulty}
@@ -88,18 +88,18 @@ same-answer o r r′ p q =
     let e : r ≡ r′ = p ∙ sym q in
     record { refusal = ap refusalIn e; entry = ap entryIn e; count = ap countIn e; same = e }
 
-pub one-survey : (s : List ℕ) (r r′ : Answer) → r ≡ surveyOf (recordOf s) → r′ ≡ surveyOf (recordOf s) → SameAnswer r r′
-one-survey s r r′ p q = same-answer (surveyOf (recordOf s)) r r′ p q
+pub one-survey : (s : List ℕ) (r r′ : Answer) → r ≡ surveyOf (bytesHeld s) → r′ ≡ surveyOf (bytesHeld s) → SameAnswer r r′
+one-survey s r r′ p q = same-answer (surveyOf (bytesHeld s)) r r′ p q
 
 -- the sheet's record is not refused, and is not three entries
-sheet-survey : (r : Answer) → r ≡ surveyOf (recordOf sheetBytes) → r ≡ All 4
+sheet-survey : (r : Answer) → r ≡ surveyOf (bytesHeld sheetBytes) → r ≡ All 4
 unfolding surveyOf
 sheet-survey r p = p ∙ ap surveyOf sheet-reads
 
-pub survey-not-refused : (r : Answer) (k n : ℕ) → r ≡ surveyOf (recordOf sheetBytes) → r ≡ Refused k n → ⊥
+pub survey-not-refused : (r : Answer) (k n : ℕ) → r ≡ surveyOf (bytesHeld sheetBytes) → r ≡ Refused k n → ⊥
 survey-not-refused r k n p q = let z : _≡_ {A = ℕ} 0 1 = cc (sheet-survey r p) in omega arith
 
-pub survey-not-three : (r : Answer) → r ≡ surveyOf (recordOf sheetBytes) → countIn r ≡ 3 → ⊥
+pub survey-not-three : (r : Answer) → r ≡ surveyOf (bytesHeld sheetBytes) → countIn r ≡ 3 → ⊥
 unfolding countIn
 survey-not-three r p q = omega (arith, ap countIn (sheet-survey r p))
 
@@ -117,10 +117,10 @@ unfolding foundRefusal foundNext foundBytes
 says-25 r p = let e : r ≡ Fault 25 = p ∙ client-8 in (ap foundRefusal e, ap foundNext e, ap foundBytes e)
 
 -- the sheet's record is four entries; kind 9 after its first entry is refused 24 at entry 1, and none is counted
-pub says-four : (r : Answer) → r ≡ surveyOf (recordOf sheetBytes) → (refusalIn r ≡ 0) × (entryIn r ≡ 0) × (countIn r ≡ 4)
+pub says-four : (r : Answer) → r ≡ surveyOf (bytesHeld sheetBytes) → (refusalIn r ≡ 0) × (entryIn r ≡ 0) × (countIn r ≡ 4)
 unfolding refusalIn entryIn countIn
 says-four r p = let e = sheet-survey r p in (ap refusalIn e, ap entryIn e, ap countIn e)
 
-pub says-24 : (r : Answer) → r ≡ surveyOf (recordOf (0x01 ∷ 0x00 ∷ 0x02 ∷ 0x0A ∷ 0x09 ∷ [])) → (refusalIn r ≡ 24) × (entryIn r ≡ 1) × (countIn r ≡ 0)
+pub says-24 : (r : Answer) → r ≡ surveyOf (bytesHeld (0x01 ∷ 0x00 ∷ 0x02 ∷ 0x0A ∷ 0x09 ∷ [])) → (refusalIn r ≡ 24) × (entryIn r ≡ 1) × (countIn r ≡ 0)
 unfolding surveyOf refusalIn entryIn countIn
 says-24 r p = let e : r ≡ Refused 24 1 = p ∙ ap surveyOf second-faulty in (ap refusalIn e, ap entryIn e, ap countIn e)

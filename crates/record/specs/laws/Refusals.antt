@@ -18,7 +18,7 @@ use Rattle.record.specs.declared.Found.the-variants.{At, Fault}
 use Rattle.record.specs.declared.Standing.{Standing}
 use Rattle.record.specs.declared.Answer.the-variants.{Refused}
 use Rattle.record.specs.Entry.{upTo, fieldsAt, entryAt}
-use Rattle.record.specs.Record.{entryLimit, fresh, faultAfter, standingAfter, openBy, Held, entries, fault, before, heldFrom, recordOf}
+use Rattle.record.specs.Record.{entryLimit, fresh, faultAfter, standingAfter, openBy, Held, entries, fault, before, heldFrom, bytesHeld}
 use Rattle.record.specs.laws.Steps.{ends, full, unread, misplaced, onward}
 use Rattle.record.specs.Named.{Named}
 
@@ -135,6 +135,6 @@ module _ (more : ℕ → Bool) (found : ℕ → Found) (low : ℕ) (early : low 
       go true h (At e next) g ih = checked (eqb (faultAfter st e) 0) e next h g refl ih
 
 -- bytes hold a fault from 21 to 28
-pub record-faults : (s : List ℕ) (k n : ℕ) → recordOf s ≡ fault k n → Named 21 k n 2048
-unfolding recordOf
+pub record-faults : (s : List ℕ) (k n : ℕ) → bytesHeld s ≡ fault k n → Named 21 k n 2048
+unfolding bytesHeld
 record-faults s k n p = named (λ at. ltb at (length s)) (entryAt s) 21 (omega arith) (entry-faults s) entryLimit 0 0 fresh k n p

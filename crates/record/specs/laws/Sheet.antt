@@ -8,7 +8,7 @@ use Rattle.record.specs.declared.Entry.{Entry}
 use Rattle.record.specs.declared.Entry.the-variants.{ReadAsked, WriteAsked, Told, Done}
 use Rattle.record.specs.declared.Found.the-variants.{At, Fault}
 use Rattle.record.specs.Entry.{upTo, fieldsAt, entryAt}
-use Rattle.record.specs.Record.{faultAfter, standingAfter, entries, fault, before, enter, heldFrom, recordOf}
+use Rattle.record.specs.Record.{faultAfter, standingAfter, entries, fault, before, enter, heldFrom, bytesHeld}
 use Rattle.record.specs.Examples.{sheetBytes}
 
 -- the four entries of those bytes
@@ -20,8 +20,8 @@ sheetEntries =
     ∷ Told (record { 0 = 1 }) (pos 5)
     ∷ []
 
-pub sheet-reads : recordOf sheetBytes ≡ entries sheetEntries
-unfolding recordOf heldFrom enter before faultAfter standingAfter entryAt fieldsAt upTo andThen numberAt numberOf taken lastOf valueOf signedOf
+pub sheet-reads : bytesHeld sheetBytes ≡ entries sheetEntries
+unfolding bytesHeld heldFrom enter before faultAfter standingAfter entryAt fieldsAt upTo andThen numberAt numberOf taken lastOf valueOf signedOf
 sheet-reads = refl
 
 -- there is no client 8, and no cell 16
@@ -39,15 +39,15 @@ unfolding entryAt fieldsAt upTo andThen numberAt numberOf taken lastOf valueOf
 done-short = refl
 
 -- an entry that stands before a fault is no record: kind 9 after the sheet's first entry
-pub second-faulty : recordOf (0x01 ∷ 0x00 ∷ 0x02 ∷ 0x0A ∷ 0x09 ∷ []) ≡ fault 24 1
-unfolding recordOf heldFrom enter before faultAfter standingAfter entryAt fieldsAt upTo andThen numberAt numberOf taken lastOf valueOf signedOf
+pub second-faulty : bytesHeld (0x01 ∷ 0x00 ∷ 0x02 ∷ 0x0A ∷ 0x09 ∷ []) ≡ fault 24 1
+unfolding bytesHeld heldFrom enter before faultAfter standingAfter entryAt fieldsAt upTo andThen numberAt numberOf taken lastOf valueOf signedOf
 second-faulty = refl
 
 -- asked twice, and told without having asked
-pub asked-twice : recordOf (0x00 ∷ 0x00 ∷ 0x02 ∷ 0x00 ∷ 0x00 ∷ 0x02 ∷ []) ≡ fault 26 1
-unfolding recordOf heldFrom enter before faultAfter standingAfter entryAt fieldsAt upTo andThen numberAt numberOf taken lastOf valueOf signedOf
+pub asked-twice : bytesHeld (0x00 ∷ 0x00 ∷ 0x02 ∷ 0x00 ∷ 0x00 ∷ 0x02 ∷ []) ≡ fault 26 1
+unfolding bytesHeld heldFrom enter before faultAfter standingAfter entryAt fieldsAt upTo andThen numberAt numberOf taken lastOf valueOf signedOf
 asked-twice = refl
 
-pub told-unasked : recordOf (0x02 ∷ 0x00 ∷ 0x0A ∷ []) ≡ fault 27 0
-unfolding recordOf heldFrom enter before faultAfter standingAfter entryAt fieldsAt upTo andThen numberAt numberOf taken lastOf valueOf signedOf
+pub told-unasked : bytesHeld (0x02 ∷ 0x00 ∷ 0x0A ∷ []) ≡ fault 27 0
+unfolding bytesHeld heldFrom enter before faultAfter standingAfter entryAt fieldsAt upTo andThen numberAt numberOf taken lastOf valueOf signedOf
 told-unasked = refl

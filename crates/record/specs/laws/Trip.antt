@@ -13,7 +13,7 @@ use Rattle.record.specs.declared.Found.{Found}
 use Rattle.record.specs.declared.Found.the-variants.{At}
 use Rattle.record.specs.declared.Standing.{Standing}
 use Rattle.record.specs.Entry.{entryBytes, entryAt}
-use Rattle.record.specs.Record.{entryLimit, fresh, standingAfter, entries, before, heldFrom, recordOf, allOf, bytesOf}
+use Rattle.record.specs.Record.{entryLimit, fresh, standingAfter, entries, before, heldFrom, bytesHeld, allOf, bytesOf}
 use Rattle.record.specs.Legal.{InRange, Follows, Legal}
 use Rattle.number.specs.Below.{Below, Bytes}
 use Rattle.record.specs.laws.Steps.{ends, onward, first, empty}
@@ -38,8 +38,8 @@ module _ (more : ℕ → Bool) (found : ℕ → Found) (range : (at : ℕ) (e : 
   held-legal es p = record { follows = held-follows es entryLimit 0 0 fresh p; few = omega (arith, held-few es entryLimit 0 0 fresh p) }
 
 -- reading gives records without a fault only
-pub reading-legal : (s : List ℕ) (es : List Entry) → Bytes s → recordOf s ≡ entries es → Legal es
-unfolding recordOf
+pub reading-legal : (s : List ℕ) (es : List Entry) → Bytes s → bytesHeld s ≡ entries es → Legal es
+unfolding bytesHeld
 reading-legal s es h p = held-legal (λ at. ltb at (length s)) (entryAt s) (λ at e next q. written-entry s at e next h q .range) es p
 
 -- ---- what was written is read
@@ -74,8 +74,8 @@ bytes-source s = record {
 }
 
 -- the bytes of a record without a fault are read as that record
-pub read-of-write : (es : List Entry) → Legal es → recordOf (bytesOf es) ≡ entries es
-unfolding recordOf
+pub read-of-write : (es : List Entry) → Legal es → bytesHeld (bytesOf es) ≡ entries es
+unfolding bytesHeld
 read-of-write es l = holds _ _ entryBytes (bytesOf es) (bytes-source (bytesOf es)) es entryLimit 0 0 fresh (l .follows) (l .few) refl
 
 -- ---- what is read was written
@@ -94,8 +94,8 @@ written-from s h (e ∷ es) left at n st p =
     ∙ ap (λ (l : List ℕ). entryBytes e ++ l) (written-from s h es (w .fewer) (w .next) (n + 1) (standingAfter st e) (w .others))
 
 -- a record that is read is written back byte for byte: no other bytes hold it
-pub write-of-read : (s : List ℕ) (es : List Entry) → Bytes s → recordOf s ≡ entries es → bytesOf es ≡ s
-unfolding recordOf
+pub write-of-read : (s : List ℕ) (es : List Entry) → Bytes s → bytesHeld s ≡ entries es → bytesOf es ≡ s
+unfolding bytesHeld
 write-of-read s es h p = sym (written-from s h es entryLimit 0 0 fresh p)
 
 -- ---- how long a record is

@@ -1,5 +1,5 @@
 -- No other outcome fits a call: two that both meet its contract answer the same and leave the same bytes, and wrong ones do not meet it.
-use Prim.Native.Nat.{ℕ}
+use Prim.Native.Nat.{ℕ, _≤_}
 use mathlib.Core.Path.{_≡_, ap, sym, _∙_}
 use mathlib.Core.List.{List}
 use native.Mathlib.Omega.{arith}
@@ -12,8 +12,9 @@ use Rattle.report.specs.Line.{lineOf}
 use Rattle.report.specs.Examples.{room}
 
 -- what is answered and what stands in the lent bytes afterwards
-pub only-one : (before : List ℕ) (v : Verdict) {r s : ℕ} {after other : List ℕ} → Wrote before 0 (lineOf v) r after → Wrote before 0 (lineOf v) s other → (r ≡ s) × (after ≡ other)
-only-one before v a b = (a .place ∙ sym (b .place), a .list ∙ sym (b .list))
+pub only-one : (before : List ℕ) (v : Verdict) {r s : ℕ} {after other : List ℕ} → Wrote before 0 (lineOf v) r after × (r ≤ 64)
+    → Wrote before 0 (lineOf v) s other × (s ≤ 64) → (r ≡ s) × (after ≡ other)
+only-one before v a b = (a .0 .place ∙ sym (b .0 .place), a .0 .list ∙ sym (b .0 .list))
 
 -- `lawful` has its line feed: it isn't six bytes
 pub not-six-bytes : (after : List ℕ) → Wrote room 0 (lineOf Lawful) 6 after → ⊥

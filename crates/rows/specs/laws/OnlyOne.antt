@@ -40,9 +40,9 @@ pub row-not-plain : (client : Client) (cell : Cell) (r : List ℕ) → r ≡ row
 unfolding rowOf alternatingOf
 row-not-plain client cell r p q = omega (arith, ap (λ (l : List ℕ). getD l 3 0) p)
 
-pub one-stored : (rows : List ℕ) (at : ℕ) (e : Entry) (r r′ : Bool) (d d′ : List ℕ) → r ≡ roomAt rows at → d ≡ storedAt rows at e → r′ ≡ roomAt rows at
-    → d′ ≡ storedAt rows at e → OneStored r r′ d d′
-one-stored rows at e r r′ d d′ p q p′ q′ = record { answer = p ∙ sym p′; lent = q ∙ sym q′ }
+pub one-stored : (rows : List ℕ) (at : ℕ) (e : Entry) (r r′ : Bool) (d d′ : List ℕ) → (r ≡ roomAt rows at) × (d ≡ storedAt rows at e)
+    → (r′ ≡ roomAt rows at) × (d′ ≡ storedAt rows at e) → OneStored r r′ d d′
+one-stored rows at e r r′ d d′ p q = record { answer = p .0 ∙ sym (q .0); lent = p .1 ∙ sym (q .1) }
 
 -- the last place has room, and the one after it hasn't
 pub stored-not-full : (a b c d : ℕ) (r : Bool) → r ≡ roomAt (a ∷ b ∷ c ∷ d ∷ []) 0 → r ≡ false → ⊥

@@ -10,7 +10,7 @@ use lib.Dec.{ltb, leb}
 use Rattle.record.specs.declared.Entry.{Entry}
 use Rattle.record.specs.declared.Found.the-variants.{At, Fault}
 use Rattle.record.specs.declared.Answer.the-variants.{All, Refused}
-use Rattle.record.specs.Record.{entryLimit, fresh, Held, entries, fault, recordOf, bytesOf}
+use Rattle.record.specs.Record.{entryLimit, fresh, Held, entries, fault, bytesHeld, bytesOf}
 use Rattle.record.specs.laws.Refusals.{no-at, named, record-faults}
 use Rattle.record.specs.Named.{Named}
 use Rattle.rows.specs.Row.{rowFound, rowAt}
@@ -59,9 +59,9 @@ of-room low out count d k n p = go (stores out count d)
 -- reading refuses with 20 to 28
 pub read-refusals : (s d : List ℕ) (k n : ℕ) → readOutcome s d .answer ≡ Refused k n → Refusal 21 k n
 unfolding readInto
-read-refusals s d k n p = go (recordOf s) refl p
+read-refusals s d k n p = go (bytesHeld s) refl p
   where
-    go : (h : Held) → recordOf s ≡ h → readInto h d .answer ≡ Refused k n → Refusal 21 k n
+    go : (h : Held) → bytesHeld s ≡ h → readInto h d .answer ≡ Refused k n → Refusal 21 k n
     go (fault j m) e q =
         let a : j ≡ k = cc in
         let b : m ≡ n = cc in

@@ -9,7 +9,7 @@ use lib.Seq.{getD-drop}
 use lib.Dec.{ltb}
 use borrow.Author.Tests.{ltb-true, ltb-false}
 use Rattle.number.specs.Value.{alternatingOf}
-use Rattle.number.specs.laws.ValueLaws.{signed-alternating, alternating-below, signed-fits}
+use Rattle.number.specs.laws.ValueLaws.{signed-alternating, signed-fits}
 use Rattle.record.specs.declared.Entry.{Entry}
 use Rattle.record.specs.declared.Entry.the-variants.{ReadAsked, WriteAsked, Told, Done}
 use Rattle.record.specs.declared.Found.the-variants.{At}
@@ -89,11 +89,3 @@ four-words a b c d ha hb hc hd (suc zero) = hb
 four-words a b c d ha hb hc hd (suc (suc zero)) = hc
 four-words a b c d ha hb hc hd (suc (suc (suc zero))) = hd
 four-words a b c d ha hb hc hd (suc (suc (suc (suc i)))) = below-none (2 ^ 32) (omega arith) i
-
--- each number of a row is a word
-pub row-words : (e : Entry) → InRange e → Words (rowOf e)
-unfolding rowOf
-row-words (ReadAsked client cell) h = four-words 0 (client .0) (cell .0) 0 (omega arith) (omega arith) (omega arith) (omega arith)
-row-words (WriteAsked client cell v) h = four-words 1 (client .0) (cell .0) (alternatingOf v) (omega arith) (omega arith) (omega arith) (alternating-below v (h .2))
-row-words (Told client v) h = four-words 2 (client .0) 0 (alternatingOf v) (omega arith) (omega arith) (omega arith) (alternating-below v (h .1))
-row-words (Done client) h = four-words 3 (client .0) 0 0 (omega arith) (omega arith) (omega arith) (omega arith)

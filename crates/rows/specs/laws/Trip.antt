@@ -1,5 +1,5 @@
 -- Whole records in rows and in lent memory: what was written is read, what is read is written back byte for byte, and a refusal leaves all as it was.
-use Prim.Native.Nat.{ℕ, _+_, _*_, _^_}
+use Prim.Native.Nat.{ℕ, _+_, _*_}
 use mathlib.Core.List.{List, _++_}
 use mathlib.Core.Path.{_≡_, refl, ap, _∙_, sym}
 use mathlib.Core.Bool.{Bool, true, false}
@@ -11,15 +11,15 @@ use borrow.Author.Tests.{le-leb, lt-leb, ltb-true, ltb-false}
 use Rattle.record.specs.declared.Entry.{Entry}
 use Rattle.record.specs.declared.Found.the-variants.{At}
 use Rattle.record.specs.declared.Answer.the-variants.{All, Refused}
-use Rattle.record.specs.Record.{entryLimit, fresh, Held, entries, fault, recordOf, bytesOf}
+use Rattle.record.specs.Record.{entryLimit, fresh, Held, entries, fault, bytesHeld, bytesOf}
 use Rattle.record.specs.Legal.{Legal}
 use Rattle.number.specs.Below.{Bytes, Words}
-use Rattle.record.specs.laws.Trip.{held-legal, Source, holds, from-length, from-none, all-below, reading-legal, read-of-write, write-of-read}
+use Rattle.record.specs.laws.Trip.{held-legal, Source, holds, from-length, from-none, reading-legal, read-of-write, write-of-read}
 use Rattle.rows.specs.Row.{rowOf, rowAt}
 use Rattle.rows.specs.Rows.{rowsHeld, rowsOf, Outcome, stored, readInto, writeInto, readOutcome, writeOutcome}
 use Rattle.rows.specs.laws.Storing.{stored-fits, stored-short}
 use Rattle.rows.specs.laws.RowLaws.{row-length, rows-length}
-use Rattle.rows.specs.laws.RowTrip.{reads-row, row-range, row-words}
+use Rattle.rows.specs.laws.RowTrip.{reads-row, row-range}
 
 -- ---- what rows hold
 
@@ -146,7 +146,7 @@ writes-legal es d l = ap (λ (h : Held). writeInto h d) (rows-of-rows es l)
 -- the rows that a read leaves are written back as the bytes that were read, or refused with 20
 pub write-after-read : (s d : List ℕ) (n : ℕ) (b : List ℕ) → Bytes s → readOutcome s d .answer ≡ All n → writeOutcome (take (4 * n) (readOutcome s d .lent)) b ≡ stored s (length s) b
 write-after-read s d n b h p =
-    let w = read-took (recordOf s) d n p in
+    let w = read-took (bytesHeld s) d n p in
     ap (λ (l : List ℕ). writeOutcome l b) (w .front)
     ∙ writes-legal (w .all) b (reading-legal s (w .all) h (w .held))
     ∙ ap (λ (l : List ℕ). stored l (length l) b) (write-of-read s (w .all) h (w .held))

@@ -10,7 +10,7 @@ use lib.ListN.{getD, set, length, length-set, drop}
 use borrow.Author.Tests.{leb-true, leb-false}
 use Rattle.record.specs.declared.Entry.{Entry}
 use Rattle.slots.specs.Free.{markedAt}
-use Rattle.slots.specs.Words.{Tied}
+use Rattle.slots.specs.Words.{Maps}
 use Rattle.quorum.specs.Sets.{membersOf}
 use Rattle.quorum.specs.laws.SetLaws.{within-below}
 use Rattle.quorum.specs.laws.Members.{members-count}
@@ -22,8 +22,8 @@ use Rattle.method.specs.declared.Event.{Event}
 use Rattle.method.specs.declared.Note.{Note}
 use Rattle.method.specs.declared.Note.the-variants.{Nothing, Asked, Ended}
 use Rattle.method.specs.declared.Plan.{Plan}
-use Rattle.method.specs.declared.Outcome.{Outcome}
-use Rattle.method.specs.declared.Outcome.the-variants.{No, Go}
+use Rattle.method.specs.declared.Decision.{Decision}
+use Rattle.method.specs.declared.Decision.the-variants.{No, Go}
 use Rattle.method.specs.Plan.{planOf}
 use Rattle.rack.specs.Places.{empty, idle, heldIn, freeAt, roomOf, sentOf}
 use Rattle.rack.specs.Sound.{soundOf, owedIn}
@@ -33,7 +33,7 @@ use Rattle.rack.specs.Run.{inRack, slotOf, placeIn, freed, checked, decided, ad
 use Rattle.rack.specs.laws.SoundLaws.{sound-of, bits-enough}
 use Rattle.rack.specs.laws.Decided.{lookedClient, lookedPlace, Looked, looked, Decided, decided-fits}
 use Rattle.runs.specs.laws.Stays.{stays, sound-stays}
-use Rattle.runs.specs.laws.Steps.{eventAt, tried, used-up, ended}
+use Rattle.runs.specs.laws.Steps.{nthEvent, tried, used-up, ended}
 use Rattle.runs.specs.laws.Sending.{room-most, slotAfter, cleared-is, cleared-room, Sending, sending-start, sending-end, sent-long, sent-room}
 
 -- ---- the rack after a plan, in parts
@@ -75,11 +75,11 @@ room-after r e p d l =
 pub record Going (self : Rack) (allowance : ℕ) (ws : List ℕ) (r : Rack) (free : List ℕ) (room i : ℕ) : Type 0 where
   pub steps : runFrom 0 self allowance ws ≡ runFrom i r (allowance - i) (drop (4 * i) ws)
   pub sound : soundOf r ≡ true
-  pub tied : Tied (freeAt (r .wire)) free
+  pub tied : Maps (freeAt (r .wire)) free
   pub rooms : room ≡ roomOf (r .wire)
   pub wire-long : length (r .wire) ≡ 256
 
-pub going-start : (self : Rack) (allowance : ℕ) (ws : List ℕ) (free : List ℕ) (room : ℕ) → soundOf self ≡ true → Tied (freeAt (self .wire)) free → room ≡ roomOf (self .wire)
+pub going-start : (self : Rack) (allowance : ℕ) (ws : List ℕ) (free : List ℕ) (room : ℕ) → soundOf self ≡ true → Maps (freeAt (self .wire)) free → room ≡ roomOf (self .wire)
     → length (self .wire) ≡ 256 → Going self allowance ws self free room 0
 going-start self allowance ws free room so t m l =
     let e : allowance ≡ allowance - 0 = omega arith in
@@ -112,15 +112,15 @@ module _ (self : Rack) (allowance : ℕ) (ws : List ℕ) (r : Rack) (free : List
       go true e = going-stop (leb-true allowance i e)
       go false e = let l : i < allowance = leb-false allowance i e in going-end (omega (arith, m .last (omega arith)))
 
-  next : (e : Event) → e ≡ eventAt ws i → (o : Outcome) → decided r e ≡ o → i < allowance → i < length ws / 4
+  next : (e : Event) → e ≡ nthEvent ws i → (o : Decision) → decided r e ≡ o → i < allowance → i < length ws / 4
       → runFrom 0 self allowance ws ≡ turn i r e o (λ q. runFrom (i + 1) q (allowance - (i + 1)) (drop (4 * (i + 1)) ws))
   next e ee o d h l =
       g .steps ∙ tried i r allowance i ws h l
       ∙ ap (λ (x : Event). turn i r x (decided r x) (λ q. runFrom (i + 1) q (allowance - (i + 1)) (drop (4 * (i + 1)) ws))) (sym ee)
-      ∙ ap (λ (x : Outcome). turn i r e x (λ q. runFrom (i + 1) q (allowance - (i + 1)) (drop (4 * (i + 1)) ws))) d
+      ∙ ap (λ (x : Decision). turn i r e x (λ q. runFrom (i + 1) q (allowance - (i + 1)) (drop (4 * (i + 1)) ws))) d
 
   -- an event is refused
-  pub going-no : (e : Event) → e ≡ eventAt ws i → (k n : ℕ) → decided r e ≡ No k → Most allowance (length ws) n → i < n → ranOf i k r ≡ runFrom 0 self allowance ws
+  pub going-no : (e : Event) → e ≡ nthEvent ws i → (k n : ℕ) → decided r e ≡ No k → Most allowance (length ws) n → i < n → ranOf i k r ≡ runFrom 0 self allowance ws
   unfolding turn
   going-no e ee k n d m h = sym (next e ee (No k) d (omega (arith, m .below)) (omega (arith, m .whole)))
 
@@ -140,7 +140,7 @@ module _ (self : Rack) (allowance : ℕ) (ws : List ℕ) (r : Rack) (free : List
       record { slot = there-slot e j h ej; client = omega (arith, l .client, sound-of r (g .sound) .sizes .clients); pair = omega (arith, l .place) }
 
   -- the outcome is the definition's
-  pub going-plan : (e : Event) (j c a : ℕ) (q o : Outcome) → inRack (r .sizes) e ≡ true → j ≡ slotOf e → c ≡ clientOf e (heldIn (r .wire) j)
+  pub going-plan : (e : Event) (j c a : ℕ) (q o : Decision) → inRack (r .sizes) e ≡ true → j ≡ slotOf e → c ≡ clientOf e (heldIn (r .wire) j)
       → a ≡ placeIn (heldIn (r .wire) j)
       → q ≡ planOf (record {
         replicas = r .sizes .replicas;
@@ -159,7 +159,7 @@ module _ (self : Rack) (allowance : ℕ) (ws : List ℕ) (r : Rack) (free : List
 
   -- the loop that sends begins
   pub going-send : (e : Event) (j : ℕ) (p : Plan) (s : Slot) (after : List ℕ) → decided r e ≡ Go p → j ≡ slotOf e → s ≡ slotAfter (p .clear) (getD (r .wire) j empty)
-      → ((f : ℕ → Bool) → Tied f free → Tied (markedAt (p .clear) f j) after)
+      → ((f : ℕ → Bool) → Maps f free → Maps (markedAt (p .clear) f j) after)
       → Sending (r .sizes .replicas) (set (r .wire) j s) (p .message) (p .to) (set (r .wire) j s) after (p .to)
   going-send e j p s after d ej es k =
       let f : Decided r e p = decided-fits r e p (g .sound) d in
@@ -177,8 +177,8 @@ module _ (self : Rack) (allowance : ℕ) (ws : List ℕ) (r : Rack) (free : List
   room-fits e p d = (omega (arith, g .rooms, decided-fits r e p (g .sound) d .room), omega (arith, g .rooms, room-most (r .wire)))
 
   -- the next turn
-  pub going-on : (e : Event) → e ≡ eventAt ws i → (p : Plan) (s : Rack) (after : List ℕ) (f n : ℕ) → decided r e ≡ Go p
-      → Most allowance (length ws) n → i < n → s ≡ appliedOf r e p → Tied (freeAt (s .wire)) after
+  pub going-on : (e : Event) → e ≡ nthEvent ws i → (p : Plan) (s : Rack) (after : List ℕ) (f n : ℕ) → decided r e ≡ Go p
+      → Most allowance (length ws) n → i < n → s ≡ appliedOf r e p → Maps (freeAt (s .wire)) after
       → f ≡ room + freed (p .clear) - ones (p .to) → Going self allowance ws s after f (i + 1)
   unfolding turn
   going-on e ee p s after f n d m h es t ef =

@@ -6,8 +6,8 @@ use mathlib.Core.List.{List, [], _∷_}
 use native.Mathlib.Omega.{arith}
 use lib.Dec.{eqb, ltb}
 use lib.ListN.{drop, length}
-use Rattle.method.specs.declared.Outcome.{Outcome}
-use Rattle.method.specs.declared.Outcome.the-variants.{No, Go}
+use Rattle.method.specs.declared.Decision.{Decision}
+use Rattle.method.specs.declared.Decision.the-variants.{No, Go}
 use Rattle.rack.specs.declared.Rack.{Rack}
 use Rattle.rack.specs.declared.Ran.{Ran}
 use Rattle.rack.specs.Sound.{soundOf}
@@ -27,7 +27,7 @@ from-stays done r (suc left) (k ∷ a ∷ []) s = s
 from-stays done r (suc left) (k ∷ a ∷ b ∷ []) s = s
 from-stays done r (suc left) (k ∷ a ∷ b ∷ v ∷ ws) s = go (decided r (eventOf k a b v)) refl (λ q. from-stays (done + 1) q left ws)
   where
-    go : (o : Outcome) → decided r (eventOf k a b v) ≡ o → ((q : Rack) → soundOf q ≡ true → soundOf (runFrom (done + 1) q left ws .rack) ≡ true)
+    go : (o : Decision) → decided r (eventOf k a b v) ≡ o → ((q : Rack) → soundOf q ≡ true → soundOf (runFrom (done + 1) q left ws .rack) ≡ true)
         → soundOf (turn done r (eventOf k a b v) o (λ q. runFrom (done + 1) q left ws) .rack) ≡ true
     go (No n) e ih = s
     go (Go p) e ih = ih (appliedOf r (eventOf k a b v) p) (sound-stays r (eventOf k a b v) p s e)
@@ -52,7 +52,7 @@ from-later n done r (suc left) (k ∷ a ∷ []) = refl
 from-later n done r (suc left) (k ∷ a ∷ b ∷ []) = refl
 from-later n done r (suc left) (k ∷ a ∷ b ∷ v ∷ ws) = go (decided r (eventOf k a b v)) (λ q. from-later n (done + 1) q left ws)
   where
-    go : (o : Outcome) → ((q : Rack) → runFrom (n + (done + 1)) q left ws ≡ later n (runFrom (done + 1) q left ws))
+    go : (o : Decision) → ((q : Rack) → runFrom (n + (done + 1)) q left ws ≡ later n (runFrom (done + 1) q left ws))
         → turn (n + done) r (eventOf k a b v) o (λ q. runFrom (n + done + 1) q left ws) ≡ later n (turn done r (eventOf k a b v) o (λ q. runFrom (done + 1) q left ws))
     go (No x) ih = refl
     go (Go p) ih =

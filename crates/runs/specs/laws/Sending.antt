@@ -11,7 +11,7 @@ use lib.ListN.{getD, set, length, length-set}
 use lib.Seq.{getD-set-same, getD-set-other, set-getD}
 use Rattle.slots.specs.Free.{countFrom, firstFree, takenAt, markedAt}
 use Rattle.slots.specs.laws.FreeLaws.{taken-here, taken-else, given-here, given-else, count-same, count-most, count-taken, count-given, some-free, lowest-free, lowest-least}
-use Rattle.slots.specs.Words.{Tied, Took}
+use Rattle.slots.specs.Words.{Maps, Took}
 use Rattle.slots.specs.laws.Finding.{tied-same}
 use Rattle.slots.specs.laws.UpTo.{freeBelow, upto-next, upto-all}
 use Rattle.method.specs.declared.Message.{Message}
@@ -31,13 +31,13 @@ unfolding roomOf
 room-most w = count-most 256 0 (freeAt w)
 
 -- the lowest free slot is one of the wire's and is free, and none below it is
-pub record Lowest (w : List Slot) : Type 0 where
+pub record LowestSlot (w : List Slot) : Type 0 where
   pub below : lowestIn w < 256
   pub free : freeAt w (lowestIn w) ≡ true
   pub first : (j : ℕ) → j < lowestIn w → freeAt w j ≡ false
 
 -- where there is room
-pub low-free : (w : List Slot) → 0 < roomOf w → Lowest w
+pub low-free : (w : List Slot) → 0 < roomOf w → LowestSlot w
 unfolding roomOf
 low-free w h =
     let b : lowestIn w < 256 = some-free (freeAt w) h in
@@ -61,7 +61,7 @@ free-taken w i m h k = go (eqb k i) refl
 pub sent-one : (w : List Slot) (m : Message) → length w ≡ 256 → 0 < roomOf w → roomOf (set w (lowestIn w) (full m)) + 1 ≡ roomOf w
 unfolding roomOf
 sent-one w m l h =
-    let f : Lowest w = low-free w h in
+    let f : LowestSlot w = low-free w h in
     let s = count-same 256 0 (takenAt (freeAt w) (lowestIn w)) (freeAt (set w (lowestIn w) (full m))) (λ j a b. free-taken w (lowestIn w) m (omega (arith, l, f .below)) j) in
     omega (arith, s, count-taken (freeAt w) (lowestIn w) (f .below) (f .free))
 
@@ -75,7 +75,7 @@ sent-long w (m ∷ ms) = sent-long (set w (lowestIn w) (full m)) ms ∙ length-s
 -- each message finds a free slot
 abbrev pub Finds : List Slot → List Message → Type 0
 Finds w [] = Unit {0}
-Finds w (m ∷ ms) = Lowest w × Finds (set w (lowestIn w) (full m)) ms
+Finds w (m ∷ ms) = LowestSlot w × Finds (set w (lowestIn w) (full m)) ms
 
 -- with as much room as there is to send
 pub sent-finds : (w : List Slot) (ms : List Message) → length w ≡ 256 → length ms ≤ roomOf w → Finds w ms
@@ -148,7 +148,7 @@ sent-none n w m = ap (λ (ks : List ℕ). sentOf w (addressed m ks)) (members-no
 -- Of a message to the replicas of a set `to`, with the wire v before: the wire w now, the map of its free slots, and the set that is left.
 pub record Sending (n : ℕ) (v : List Slot) (m : Message) (to : ℕ) (w : List Slot) (free : List ℕ) (left : ℕ) : Type 0 where
   pub sent : sentOf v (addressed m (membersOf n to)) ≡ sentOf w (addressed m (membersOf n left))
-  pub tied : Tied (freeAt w) free
+  pub tied : Maps (freeAt w) free
   pub enough : ones left ≤ roomOf w
   pub long : length w ≡ 256
   pub small : left < 2 ^ n
@@ -185,7 +185,7 @@ module _ (n : ℕ) (v : List Slot) (m : Message) (to : ℕ) (w : List Slot) (fre
 
 -- the slot of the event was emptied or not, and the loop begins
 pub sending-start : (n : ℕ) (w : List Slot) (j : ℕ) (b : Bool) (s : Slot) (m : Message) (to : ℕ) (free after : List ℕ) → s ≡ slotAfter b (getD w j empty) → j < 256
-    → length w ≡ 256 → (b ≡ true → freeAt w j ≡ false) → Tied (freeAt w) free → ((f : ℕ → Bool) → Tied f free → Tied (markedAt b f j) after)
+    → length w ≡ 256 → (b ≡ true → freeAt w j ≡ false) → Maps (freeAt w) free → ((f : ℕ → Bool) → Maps f free → Maps (markedAt b f j) after)
     → ones to ≤ roomOf w + freed b → to < 2 ^ n → n ≤ setBits → Sending n (set w j s) m to (set w j s) after to
 sending-start n w j b s m to free after es h l f t k o sm nm =
     let e : set w j s ≡ cleared b j w = ap (set w j) es ∙ cleared-is b j w in
@@ -200,9 +200,9 @@ sending-start n w j b s m to free after es h l f t k o sm nm =
 
 -- ---- the map made a slot at a time
 
-pub map-next : (w : List Slot) (i : ℕ) (b : Bool) (ws : List ℕ) → b ≡ isEmpty (heldIn w i) → Tied (markedAt b (freeBelow i (freeAt w)) i) ws → Tied (freeBelow (i + 1) (freeAt w)) ws
+pub map-next : (w : List Slot) (i : ℕ) (b : Bool) (ws : List ℕ) → b ≡ isEmpty (heldIn w i) → Maps (markedAt b (freeBelow i (freeAt w)) i) ws → Maps (freeBelow (i + 1) (freeAt w)) ws
 unfolding freeAt
 map-next w i b ws e t = upto-next i (freeAt w) ws (rw e at t)
 
-pub map-all : (w : List Slot) (i : ℕ) (ws : List ℕ) → i ≤ 256 → 256 ≤ i → Tied (freeBelow i (freeAt w)) ws → Tied (freeAt w) ws
+pub map-all : (w : List Slot) (i : ℕ) (ws : List ℕ) → i ≤ 256 → 256 ≤ i → Maps (freeBelow i (freeAt w)) ws → Maps (freeAt w) ws
 map-all w i ws h l t = let e : i ≡ 256 = omega arith in upto-all (freeAt w) ws (rw e at t)

@@ -19,7 +19,7 @@ use Rattle.rack.specs.declared.Rack.{Rack}
 use Rattle.stamps.specs.Stamp.{freshPair}
 use Rattle.method.specs.declared.Event.{Event}
 use Rattle.method.specs.declared.Plan.{Plan}
-use Rattle.method.specs.declared.Outcome.the-variants.{Go}
+use Rattle.method.specs.declared.Decision.the-variants.{Go}
 use Rattle.method.specs.Plan.{messageOf}
 use Rattle.rack.specs.Places.{empty, full, idle, pairPlace, heldIn, freeAt, sentOf}
 use Rattle.rack.specs.Sound.{pairFits, messageFits, heldFits, workFits, owes, owedBy, owed, soundOf, owedIn}

@@ -10,8 +10,8 @@ use lib.Seq.{drop-cons}
 use borrow.Author.Tests.{eqb-true, ltb-true}
 use Rattle.method.specs.declared.Event.{Event}
 use Rattle.method.specs.declared.Plan.{Plan}
-use Rattle.method.specs.declared.Outcome.{Outcome}
-use Rattle.method.specs.declared.Outcome.the-variants.{No, Go}
+use Rattle.method.specs.declared.Decision.{Decision}
+use Rattle.method.specs.declared.Decision.the-variants.{No, Go}
 use Rattle.rack.specs.declared.Rack.{Rack}
 use Rattle.rack.specs.declared.Ran.{Ran}
 use Rattle.rack.specs.Sound.{soundOf}
@@ -19,8 +19,8 @@ use Rattle.rack.specs.Run.{eventOf, decided, appliedOf, turn, ranOf, runFrom, r
 use Rattle.runs.specs.Exact.{Exact}
 
 -- the event at place i of the words
-abbrev pub eventAt : List ℕ → ℕ → Event
-eventAt ws i = eventOf (getD ws (4 * i) 0) (getD ws (4 * i + 1) 0) (getD ws (4 * i + 2) 0) (getD ws (4 * i + 3) 0)
+abbrev pub nthEvent : List ℕ → ℕ → Event
+nthEvent ws i = eventOf (getD ws (4 * i) 0) (getD ws (4 * i + 1) 0) (getD ws (4 * i + 2) 0) (getD ws (4 * i + 3) 0)
 
 -- four words, and the rest
 four : (ws : List ℕ) (a : ℕ) → a + 4 ≤ length ws
@@ -46,14 +46,14 @@ one done left r k a b v ws = refl
 -- an event is tried
 pub tried : (done : ℕ) (r : Rack) (n i : ℕ) (ws : List ℕ) → i < n → i < length ws / 4
     → runFrom done r (n - i) (drop (4 * i) ws)
-    ≡ turn done r (eventAt ws i) (decided r (eventAt ws i)) (λ q. runFrom (done + 1) q (n - (i + 1)) (drop (4 * (i + 1)) ws))
+    ≡ turn done r (nthEvent ws i) (decided r (nthEvent ws i)) (λ q. runFrom (done + 1) q (n - (i + 1)) (drop (4 * (i + 1)) ws))
 tried done r n i ws h l =
     let e : n - i ≡ suc (n - (i + 1)) = omega arith in
     let f : 4 * i + 4 ≡ 4 * (i + 1) = omega arith in
     ap (λ (k : ℕ). runFrom done r k (drop (4 * i) ws)) e
     ∙ ap (λ (x : List ℕ). runFrom done r (suc (n - (i + 1))) x) (four ws (4 * i) (omega arith))
     ∙ one done (n - (i + 1)) r _ _ _ _ _
-    ∙ ap (λ (k : ℕ). turn done r (eventAt ws i) (decided r (eventAt ws i)) (λ q. runFrom (done + 1) q (n - (i + 1)) (drop k ws))) f
+    ∙ ap (λ (k : ℕ). turn done r (nthEvent ws i) (decided r (nthEvent ws i)) (λ q. runFrom (done + 1) q (n - (i + 1)) (drop k ws))) f
 
 -- the allowance is used
 pub used-up : (done : ℕ) (r : Rack) (n i : ℕ) (ws : List ℕ) → n ≤ i → runFrom done r (n - i) ws ≡ ranOf done 0 r
@@ -109,7 +109,7 @@ steps done r (suc left) (k ∷ a ∷ []) = none-done done r (suc left) 0 (k ∷ 
 steps done r (suc left) (k ∷ a ∷ b ∷ []) = none-done done r (suc left) 0 (k ∷ a ∷ b ∷ [])
 steps done r (suc left) (k ∷ a ∷ b ∷ v ∷ ws) = go (decided r (eventOf k a b v)) refl (λ q. steps (done + 1) q left ws)
   where
-    go : (o : Outcome) → decided r (eventOf k a b v) ≡ o → ((q : Rack) → Stepped (done + 1) q left ws (runFrom (done + 1) q left ws))
+    go : (o : Decision) → decided r (eventOf k a b v) ≡ o → ((q : Rack) → Stepped (done + 1) q left ws (runFrom (done + 1) q left ws))
         → Stepped done r (suc left) (k ∷ a ∷ b ∷ v ∷ ws) (turn done r (eventOf k a b v) o (λ q. runFrom (done + 1) q left ws))
     go (No n) e ih = none-done done r (suc left) n (k ∷ a ∷ b ∷ v ∷ ws)
     go (Go p) e ih =
@@ -180,7 +180,7 @@ parts-on (suc m) n done r q (k ∷ a ∷ []) h = absurd (let z : done ≡ done +
 parts-on (suc m) n done r q (k ∷ a ∷ b ∷ []) h = absurd (let z : done ≡ done + suc m = ap (λ (x : Ran). x .done) h in omega arith)
 parts-on (suc m) n done r q (k ∷ a ∷ b ∷ v ∷ ws) h = go (decided r (eventOf k a b v)) refl h (λ x. parts-on m n (done + 1) x q ws)
   where
-    go : (o : Outcome) → decided r (eventOf k a b v) ≡ o → turn done r (eventOf k a b v) o (λ x. runFrom (done + 1) x m ws) ≡ ranOf (done + suc m) 0 q
+    go : (o : Decision) → decided r (eventOf k a b v) ≡ o → turn done r (eventOf k a b v) o (λ x. runFrom (done + 1) x m ws) ≡ ranOf (done + suc m) 0 q
         → ((x : Rack) → runFrom (done + 1) x m ws ≡ ranOf (done + 1 + m) 0 q → runFrom (done + 1) x (m + n) ws ≡ runFrom (done + 1 + m) q n (drop (4 * m) ws))
         → runFrom done r (suc m + n) (k ∷ a ∷ b ∷ v ∷ ws) ≡ runFrom (done + suc m) q n (drop (4 * suc m) (k ∷ a ∷ b ∷ v ∷ ws))
     go (No x) e h ih = absurd (let z : done ≡ done + suc m = ap (λ (x : Ran). x .done) h in omega arith)
@@ -206,7 +206,7 @@ parts-off (suc m) n done r (k ∷ a ∷ b ∷ v ∷ ws) h =
     let s : suc m + n ≡ suc (m + n) = omega arith in
     ap (λ (l : ℕ). runFrom done r l (k ∷ a ∷ b ∷ v ∷ ws)) s ∙ go (decided r (eventOf k a b v)) refl h (λ x. parts-off m n (done + 1) x ws)
   where
-    go : (o : Outcome) → decided r (eventOf k a b v) ≡ o → turn done r (eventOf k a b v) o (λ x. runFrom (done + 1) x m ws) .done < done + suc m
+    go : (o : Decision) → decided r (eventOf k a b v) ≡ o → turn done r (eventOf k a b v) o (λ x. runFrom (done + 1) x m ws) .done < done + suc m
         → ((x : Rack) → runFrom (done + 1) x m ws .done < done + 1 + m → runFrom (done + 1) x (m + n) ws ≡ runFrom (done + 1) x m ws)
         → turn done r (eventOf k a b v) o (λ x. runFrom (done + 1) x (m + n) ws) ≡ turn done r (eventOf k a b v) o (λ x. runFrom (done + 1) x m ws)
     go (No x) e h ih = refl

@@ -1,7 +1,7 @@
 -- The slots below i are in the map, and after the last all are.
 use Prim.Native.Nat.{_-_, _≤_}
 use borrow.Author.Needs.{needs}
-use Rattle.slots.specs.Words.{Tied}
+use Rattle.slots.specs.Words.{Maps}
 use Rattle.slots.specs.laws.UpTo.{freeBelow, upto-start}
 use Rattle.rack.specs.Places.{freeAt, roomOf}
 use Rattle.runs.specs.laws.Sending.{map-next, map-all}
@@ -9,7 +9,7 @@ use Rattle.schedule.proofs.start_of.Statement.{statement}
 use Rattle.schedule.proofs.start_of.Tie as tie
 
 abbrev Inv-loop : tie.InvT-loop
-Inv-loop rack free₀ i₀ free i = (i ≤ 256) × (Tied (freeBelow i (freeAt (rack .wire))) free)
+Inv-loop rack free₀ i₀ free i = (i ≤ 256) × (Maps (freeBelow i (freeAt (rack .wire))) free)
 
 abbrev μ-loop : tie.MeasureT-loop
 μ-loop rack free₀ i₀ free i = 256 - i

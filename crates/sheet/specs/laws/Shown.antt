@@ -9,7 +9,7 @@ use Rattle.number.specs.Value.{alternatingOf, signedOf}
 use Rattle.number.specs.laws.Sheet.{of-127, of-128}
 use Rattle.record.specs.declared.Entry.{Entry}
 use Rattle.record.specs.Entry.{entryBytes, upTo, fieldsAt, entryAt}
-use Rattle.record.specs.Record.{entries, faultAfter, standingAfter, before, enter, heldFrom, recordOf, allOf, bytesOf}
+use Rattle.record.specs.Record.{entries, faultAfter, standingAfter, before, enter, heldFrom, bytesHeld, allOf, bytesOf}
 use Rattle.record.specs.laws.Sheet.{sheet-reads}
 use Rattle.law.specs.Operation.{note, notes, operations}
 use Rattle.law.specs.Part.{partFrom, partOf}
@@ -23,33 +23,33 @@ use Rattle.slots.specs.Free.{countFrom, firstFrom}
 use Rattle.stamps.specs.Stamp.{stampLess, raised}
 use Rattle.method.specs.Plan.{started, startIn, startOf, askOf, keepOf, current, keepsOf, phaseEnds, holds, tellCounts, tellIn, tellOf, lastEntry, keptCounts, keptIn, keptOf}
 use Rattle.method.specs.Plan.{deliverIn, deliverOf, ofSlot, planOf}
-use Rattle.rack.specs.Places.{freeAt, roomOf, sentOf, recordOf as recordIn}
+use Rattle.rack.specs.Places.{freeAt, roomOf, sentOf, recordOf}
 use Rattle.rack.specs.Sound.{allBelow, sizesFit, pairFits, bodyFits, messageFits, heldFits, workFits, owes, owedBy, owedIn, owed, wireFits, pairsFit, partiesFit, recordFits}
 use Rattle.rack.specs.Sound.{soundOf}
 use Rattle.method.specs.About.{clientIn, clientOf}
 use Rattle.rack.specs.Run.{freshRack, byte, eventOf, inRack, slotOf, placeIn, noted, freed, checked, decided, addressed, cleared, recorded, entriesIn, appliedOf, turn, runFrom}
 use Rattle.rack.specs.Run.{runOf}
 use Rattle.rack.specs.Counts.{sentBy, deliveredBy, counted, countOver}
-use Rattle.sheet.specs.Sheet.{Says, lawful, unlawful, Sheet}
+use Rattle.sheet.specs.Sheet.{BytesSay, lawful, unlawful, Sheet}
 
 -- how a record's line is shown: what its bytes hold is computed, and so is whether there is a lawful order
-module _ {bytes : List ℕ} {es : List Entry} (held : recordOf bytes ≡ entries es) (written : bytesOf es ≡ bytes) (small : allBytes bytes ≡ true)
+module _ {bytes : List ℕ} {es : List Entry} (held : bytesHeld bytes ≡ entries es) (written : bytesOf es ≡ bytes) (small : allBytes bytes ≡ true)
     (fresh : distinct (entries es) ≡ entries es) where
   taken-for : takenFor bytes ≡ entries es
   unfolding takenFor
   taken-for = ap distinct held ∙ fresh
 
-  says : (v : Verdict) → Judges (takenFor bytes) v → Says bytes es v
+  says : (v : Verdict) → Judges (takenFor bytes) v → BytesSay bytes es v
   says v right = record { held = held; written = written; right = right; only = no-other bytes small v right }
 
-  lawful-line : Yes (dec-lawful (operations es)) → Says bytes es lawful
+  lawful-line : Yes (dec-lawful (operations es)) → BytesSay bytes es lawful
   lawful-line t = says lawful (es, (taken-for, by-yes (dec-lawful (operations es)) t))
 
-  unlawful-line : partOf 0 es ≡ [] → partOf 1 es ≡ [] → No (dec-lawful (operations (partOf 2 es))) → Says bytes es (unlawful 2)
+  unlawful-line : partOf 0 es ≡ [] → partOf 1 es ≡ [] → No (dec-lawful (operations (partOf 2 es))) → BytesSay bytes es (unlawful 2)
   unlawful-line p q t = says (unlawful 2) (es, (taken-for, lowest-2 es p q (by-no (dec-lawful (operations (partOf 2 es))) t)))
 
 pub sheet : Sheet
-unfolding groupsOf alternatingOf recordOf heldFrom allOf distinct distinctFrom allBytes operations notes dec-lawful entryBytes enter before faultAfter standingAfter entryAt fieldsAt upTo andThen numberAt numberOf taken lastOf valueOf signedOf repeats askedAmong asksFor note partOf partFrom setBits hasReplica withReplica majority asksEnough keepsEnough everyReplica within membersFrom ones countFrom firstFrom stampLess raised started startIn startOf askOf keepOf current keepsOf phaseEnds holds tellCounts tellIn tellOf lastEntry keptCounts keptIn keptOf deliverIn deliverOf ofSlot planOf freeAt roomOf sentOf allBelow sizesFit pairFits bodyFits messageFits heldFits workFits owes owedBy owedIn owed wireFits pairsFit partiesFit recordFits soundOf freshRack byte eventOf inRack slotOf clientIn placeIn clientOf noted freed checked decided addressed cleared recorded entriesIn appliedOf turn runFrom runOf sentBy deliveredBy counted countOver recordIn
+unfolding groupsOf alternatingOf bytesHeld heldFrom allOf distinct distinctFrom allBytes operations notes dec-lawful entryBytes enter before faultAfter standingAfter entryAt fieldsAt upTo andThen numberAt numberOf taken lastOf valueOf signedOf repeats askedAmong asksFor note partOf partFrom setBits hasReplica withReplica majority asksEnough keepsEnough everyReplica within membersFrom ones countFrom firstFrom stampLess raised started startIn startOf askOf keepOf current keepsOf phaseEnds holds tellCounts tellIn tellOf lastEntry keptCounts keptIn keptOf deliverIn deliverOf ofSlot planOf freeAt roomOf sentOf allBelow sizesFit pairFits bodyFits messageFits heldFits workFits owes owedBy owedIn owed wireFits pairsFit partiesFit recordFits soundOf freshRack byte eventOf inRack slotOf clientIn placeIn clientOf noted freed checked decided addressed cleared recorded entriesIn appliedOf turn runFrom runOf sentBy deliveredBy counted countOver recordOf
 sheet =
     record {
       number-127 = of-127;

@@ -4,17 +4,17 @@ use mathlib.Core.Path.{_≡_, ap, _∙_}
 use mathlib.Core.Bool.{Bool}
 use native.Mathlib.Omega.{arith}
 use borrow.Author.Needs.{needs}
-use Rattle.slots.specs.Free.{wordCount, countFrom}
-use Rattle.slots.specs.Words.{Tied}
+use Rattle.slots.specs.Free.{mapWords, countFrom}
+use Rattle.slots.specs.Words.{Maps}
 use Rattle.slots.proofs.Laws.{counted, count-none}
 use Rattle.slots.proofs.count.Statement.{statement}
 use Rattle.slots.proofs.count.Tie as tie
 
 abbrev Inv-loop : tie.InvT-loop
-Inv-loop free total₀ i₀ total i = (i ≤ wordCount) × (total ≤ 64 * i) × ((f : ℕ → Bool) → Tied f free → total ≡ countFrom (64 * i) 0 f)
+Inv-loop free total₀ i₀ total i = (i ≤ mapWords) × (total ≤ 64 * i) × ((f : ℕ → Bool) → Maps f free → total ≡ countFrom (64 * i) 0 f)
 
 abbrev μ-loop : tie.MeasureT-loop
-μ-loop free total₀ i₀ total i = wordCount - i
+μ-loop free total₀ i₀ total i = mapWords - i
 
 loop-holds : tie.Need-loop-holds Inv-loop μ-loop
 loop-holds c = (search needs, search needs, λ f t. count-none f)

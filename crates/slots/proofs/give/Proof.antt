@@ -1,13 +1,13 @@
 -- `slots::give` meets its contract: a slot past the end is in no word.
 use borrow.Author.Needs.{needs}
-use Rattle.slots.specs.Free.{wordCount}
+use Rattle.slots.specs.Free.{mapWords}
 use Rattle.slots.specs.laws.Finding.{given-past}
 use Rattle.slots.proofs.Laws.{gave}
 use Rattle.slots.proofs.give.Statement.{statement}
 use Rattle.slots.proofs.give.Tie as tie
 
 returns : tie.Need-returns
-returns c = λ f t. given-past wordCount f _ (c .before .args .slot) (c .if1 .taken) t
+returns c = λ f t. given-past mapWords f _ (c .before .args .slot) (c .if1 .taken) t
 
 mul-free : tie.Need-mul-free
 mul-free c = search needs

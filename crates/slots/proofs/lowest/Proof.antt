@@ -3,21 +3,21 @@ use Prim.Native.Nat.{ℕ, _-_, _≤_}
 use mathlib.Core.Bool.{Bool}
 use native.Mathlib.Omega.{arith}
 use borrow.Author.Needs.{needs}
-use Rattle.slots.specs.Free.{wordCount}
-use Rattle.slots.specs.Words.{Tied}
+use Rattle.slots.specs.Free.{mapWords}
+use Rattle.slots.specs.Words.{Maps}
 use Rattle.slots.specs.laws.Finding.{Passed, pass-none, pass-one}
 use Rattle.slots.proofs.Laws.{found-here, found-none}
 use Rattle.slots.proofs.lowest.Statement.{statement}
 use Rattle.slots.proofs.lowest.Tie as tie
 
 abbrev Inv-loop : tie.InvT-loop
-Inv-loop free j₀ j = (j ≤ wordCount) × ((f : ℕ → Bool) → Tied f free → Passed wordCount f j)
+Inv-loop free j₀ j = (j ≤ mapWords) × ((f : ℕ → Bool) → Maps f free → Passed mapWords f j)
 
 abbrev μ-loop : tie.MeasureT-loop
-μ-loop free j₀ j = wordCount - j
+μ-loop free j₀ j = mapWords - j
 
 loop-holds : tie.Need-loop-holds Inv-loop μ-loop
-loop-holds c = (search needs, λ f t. pass-none wordCount f)
+loop-holds c = (search needs, λ f t. pass-none mapWords f)
 
 mul-word : tie.Need-mul-word Inv-loop μ-loop
 mul-word c = search needs
@@ -48,7 +48,7 @@ loop-less c = search needs
 loop-again : tie.Need-loop-again Inv-loop μ-loop
 loop-again c =
     let l = c .before .before .before .loop in
-    (search needs, λ f t. pass-one wordCount f _ (l .j) t (l .inv .1 f t) (search needs) (omega arith))
+    (search needs, λ f t. pass-one mapWords f _ (l .j) t (l .inv .1 f t) (search needs) (omega arith))
 
 returns-2 : tie.Need-returns-2 Inv-loop μ-loop
 returns-2 c =

@@ -3,21 +3,21 @@ use Prim.Native.Nat.{ℕ, _-_, _≤_}
 use mathlib.Core.Bool.{Bool}
 use native.Mathlib.Omega.{arith}
 use borrow.Author.Needs.{needs}
-use Rattle.slots.specs.Free.{wordCount}
-use Rattle.slots.specs.Words.{Tied}
+use Rattle.slots.specs.Free.{mapWords}
+use Rattle.slots.specs.Words.{Maps}
 use Rattle.slots.specs.laws.Finding.{Passed, pass-none, pass-one}
 use Rattle.slots.proofs.Laws.{took-here, took-nothing}
 use Rattle.slots.proofs.take.Statement.{statement}
 use Rattle.slots.proofs.take.Tie as tie
 
 abbrev Inv-loop : tie.InvT-loop
-Inv-loop free₀ j₀ free j = (j ≤ wordCount) × ((f : ℕ → Bool) → Tied f free₀ → (Tied f free) × (Passed wordCount f j))
+Inv-loop free₀ j₀ free j = (j ≤ mapWords) × ((f : ℕ → Bool) → Maps f free₀ → (Maps f free) × (Passed mapWords f j))
 
 abbrev μ-loop : tie.MeasureT-loop
-μ-loop free₀ j₀ free j = wordCount - j
+μ-loop free₀ j₀ free j = mapWords - j
 
 loop-holds : tie.Need-loop-holds Inv-loop μ-loop
-loop-holds c = (search needs, λ f t. (t, pass-none wordCount f))
+loop-holds c = (search needs, λ f t. (t, pass-none mapWords f))
 
 mul-x : tie.Need-mul-x Inv-loop μ-loop
 mul-x c = search needs
@@ -59,7 +59,7 @@ loop-less c = search needs
 loop-again : tie.Need-loop-again Inv-loop μ-loop
 loop-again c =
     let l = c .before .before .before .loop in
-    (search needs, λ f t. let p = l .inv .1 f t in (p .0, pass-one wordCount f (l .free) (l .j) (p .0) (p .1) (search needs) (omega arith)))
+    (search needs, λ f t. let p = l .inv .1 f t in (p .0, pass-one mapWords f (l .free) (l .j) (p .0) (p .1) (search needs) (omega arith)))
 
 returns-2 : tie.Need-returns-2 Inv-loop μ-loop
 returns-2 c =

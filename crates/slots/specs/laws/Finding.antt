@@ -11,23 +11,23 @@ use lib.Dec.{eqb}
 use lib.Seq.{getD-set-same, getD-set-other, ext-getD}
 use borrow.Author.Tests.{eqb-true, eqb-false}
 use Rattle.slots.specs.Free.{firstFrom, countFrom, takenAt, givenAt}
-use Rattle.slots.specs.Words.{bitsFrom, TiedIn, bitAt, freeIn}
+use Rattle.slots.specs.Words.{bitsFrom, MapsIn, bitAt, freeIn}
 use Rattle.slots.specs.laws.FreeLaws.{first-free, first-count, count-cat, taken-else, taken-fills, given-here, given-else}
 use Rattle.slots.specs.laws.Bits.{trailing, ones-bits, bits-count, first-here, first-there, bits-same, bits-filled, bits-freed, bits-of}
 
 -- ---- which words
 
 -- words that are tied to some slots are tied to all that are free alike
-pub tied-same : (w : ℕ) (f g : ℕ → Bool) (ws : List ℕ) → TiedIn w f ws → ((k : ℕ) → k < 64 * w → g k ≡ f k) → TiedIn w g ws
+pub tied-same : (w : ℕ) (f g : ℕ → Bool) (ws : List ℕ) → MapsIn w f ws → ((k : ℕ) → k < 64 * w → g k ≡ f k) → MapsIn w g ws
 tied-same w f g ws t h =
     record { size = t .size; words = λ j l. t .words j l ∙ sym (bits-same 64 (64 * j) f g (λ k a b. h k (omega arith))) }
 
 -- no other words are tied to the same slots
-pub tied-only : (w : ℕ) (f : ℕ → Bool) (ws vs : List ℕ) → TiedIn w f ws → TiedIn w f vs → ws ≡ vs
+pub tied-only : (w : ℕ) (f : ℕ → Bool) (ws vs : List ℕ) → MapsIn w f ws → MapsIn w f vs → ws ≡ vs
 tied-only w f ws vs t u = ext-getD 0 ws vs (t .size ∙ sym (u .size)) (λ i h. t .words i (omega (arith, t .size)) ∙ sym (u .words i (omega (arith, t .size))))
 
 -- any words of 64 bits are tied to some slots
-pub tied-some : (w : ℕ) (ws : List ℕ) → length ws ≡ w → ((j : ℕ) → j < w → getD ws j 0 < 2 ^ 64) → TiedIn w (freeIn ws) ws
+pub tied-some : (w : ℕ) (ws : List ℕ) → length ws ≡ w → ((j : ℕ) → j < w → getD ws j 0 < 2 ^ 64) → MapsIn w (freeIn ws) ws
 unfolding freeIn
 tied-some w ws e h = record { size = e; words = λ j l. sym (bits-of 64 (64 * j) (getD ws j 0) (freeIn ws) (h j l) (at j)) }
   where
@@ -40,8 +40,8 @@ tied-some w ws e h = record { size = e; words = λ j l. sym (bits-of 64 (64 * j)
 -- ---- one word changed
 
 -- word j speaks anew of its slots, and the others are as they were
-tied-set : (w : ℕ) (f g : ℕ → Bool) (ws : List ℕ) (j y : ℕ) → TiedIn w f ws → j < w → y ≡ bitsFrom 64 (64 * j) g
-    → ((i : ℕ) → (i ≡ j → ⊥) → bitsFrom 64 (64 * i) g ≡ bitsFrom 64 (64 * i) f) → TiedIn w g (set ws j y)
+tied-set : (w : ℕ) (f g : ℕ → Bool) (ws : List ℕ) (j y : ℕ) → MapsIn w f ws → j < w → y ≡ bitsFrom 64 (64 * j) g
+    → ((i : ℕ) → (i ≡ j → ⊥) → bitsFrom 64 (64 * i) g ≡ bitsFrom 64 (64 * i) f) → MapsIn w g (set ws j y)
 tied-set w f g ws j y t h e d = record { size = length-set ws j y ∙ t .size; words = λ i l. pick i l (eqb i j) refl }
   where
     pick : (i : ℕ) → i < w → (b : Bool) → eqb i j ≡ b → getD (set ws j y) i 0 ≡ bitsFrom 64 (64 * i) g
@@ -49,26 +49,26 @@ tied-set w f g ws j y t h e d = record { size = length-set ws j y ∙ t .size; w
     pick i l false q = getD-set-other ws j i y 0 (eqb-false i j q) ∙ t .words i l ∙ sym (d i (eqb-false i j q))
 
 -- a free slot is taken: its bit is taken away
-pub tied-taken : (w : ℕ) (f : ℕ → Bool) (ws : List ℕ) (j k : ℕ) → TiedIn w f ws → j < w → k < 64 → f (64 * j + k) ≡ true
-    → TiedIn w (takenAt f (64 * j + k)) (set ws j (getD ws j 0 - 2 ^ k))
+pub tied-taken : (w : ℕ) (f : ℕ → Bool) (ws : List ℕ) (j k : ℕ) → MapsIn w f ws → j < w → k < 64 → f (64 * j + k) ≡ true
+    → MapsIn w (takenAt f (64 * j + k)) (set ws j (getD ws j 0 - 2 ^ k))
 tied-taken w f ws j k t h l e =
     tied-set w f (takenAt f (64 * j + k)) ws j (getD ws j 0 - 2 ^ k) t h
     (omega (arith, t .words j h, bits-filled 64 (64 * j) k f (takenAt f (64 * j + k)) l (taken-fills f (64 * j + k) e)))
     (λ i n. bits-same 64 (64 * i) f (takenAt f (64 * j + k)) (λ p a b. taken-else f (64 * j + k) p (λ q. n (omega arith))))
 
 -- a slot is given back: its bit is set
-pub tied-given : (w : ℕ) (f : ℕ → Bool) (ws : List ℕ) (j k : ℕ) → TiedIn w f ws → j < w → k < 64
-    → TiedIn w (givenAt f (64 * j + k)) (set ws j (bitOr (getD ws j 0) (2 ^ k)))
+pub tied-given : (w : ℕ) (f : ℕ → Bool) (ws : List ℕ) (j k : ℕ) → MapsIn w f ws → j < w → k < 64
+    → MapsIn w (givenAt f (64 * j + k)) (set ws j (bitOr (getD ws j 0) (2 ^ k)))
 tied-given w f ws j k t h l =
     tied-set w f (givenAt f (64 * j + k)) ws j (bitOr (getD ws j 0) (2 ^ k)) t h
     (ap (λ (x : ℕ). bitOr x (2 ^ k)) (t .words j h) ∙ bits-freed 64 (64 * j) k f (givenAt f (64 * j + k)) l (given-here f (64 * j + k)) (given-else f (64 * j + k)))
     (λ i n. bits-same 64 (64 * i) f (givenAt f (64 * j + k)) (λ p a b. given-else f (64 * j + k) p (λ q. n (omega arith))))
 
 -- a slot past the end is in no word
-pub taken-past : (w : ℕ) (f : ℕ → Bool) (ws : List ℕ) (i : ℕ) → 64 * w ≤ i → TiedIn w f ws → TiedIn w (takenAt f i) ws
+pub taken-past : (w : ℕ) (f : ℕ → Bool) (ws : List ℕ) (i : ℕ) → 64 * w ≤ i → MapsIn w f ws → MapsIn w (takenAt f i) ws
 taken-past w f ws i h t = tied-same w f (takenAt f i) ws t (λ k l. taken-else f i k (λ e. omega arith))
 
-pub given-past : (w : ℕ) (f : ℕ → Bool) (ws : List ℕ) (i : ℕ) → 64 * w ≤ i → TiedIn w f ws → TiedIn w (givenAt f i) ws
+pub given-past : (w : ℕ) (f : ℕ → Bool) (ws : List ℕ) (i : ℕ) → 64 * w ≤ i → MapsIn w f ws → MapsIn w (givenAt f i) ws
 given-past w f ws i h t = tied-same w f (givenAt f i) ws t (λ k l. given-else f i k (λ e. omega arith))
 
 -- ---- word after word
@@ -83,7 +83,7 @@ pass-none w f =
     let e : 64 * w ≡ 64 * w - 64 * 0 = omega arith in
     record { within = omega arith; left = ap (λ (n : ℕ). firstFrom n 0 f) e }
 
-pub pass-one : (w : ℕ) (f : ℕ → Bool) (ws : List ℕ) (j : ℕ) → TiedIn w f ws → Passed w f j → j < w → getD ws j 0 ≡ 0 → Passed w f (j + 1)
+pub pass-one : (w : ℕ) (f : ℕ → Bool) (ws : List ℕ) (j : ℕ) → MapsIn w f ws → Passed w f j → j < w → getD ws j 0 ≡ 0 → Passed w f (j + 1)
 pass-one w f ws j t p h z =
     let e : 64 * w - 64 * j ≡ 64 + (64 * w - 64 * (j + 1)) = omega arith in
     let d : 64 * j + 64 ≡ 64 * (j + 1) = omega arith in
@@ -108,7 +108,7 @@ pub record Here (w : ℕ) (f : ℕ → Bool) (j k : ℕ) : Type 0 where
   pub small : k < 64
   pub free : f (64 * j + k) ≡ true
 
-pub here-of : (w : ℕ) (f : ℕ → Bool) (ws : List ℕ) (j : ℕ) → TiedIn w f ws → Passed w f j → j < w → (getD ws j 0 ≡ 0 → ⊥)
+pub here-of : (w : ℕ) (f : ℕ → Bool) (ws : List ℕ) (j : ℕ) → MapsIn w f ws → Passed w f j → j < w → (getD ws j 0 ≡ 0 → ⊥)
     → Here w f j (trailingZeros 64 (getD ws j 0))
 here-of w f ws j t p h n =
     let v : getD ws j 0 ≡ bitsFrom 64 (64 * j) f = t .words j h in
@@ -122,7 +122,7 @@ here-of w f ws j t p h n =
     }
 
 -- the free slots of one word more
-pub count-word : (w : ℕ) (f : ℕ → Bool) (ws : List ℕ) (j : ℕ) → TiedIn w f ws → j < w → countFrom (64 * (j + 1)) 0 f ≡ countFrom (64 * j) 0 f + ones (getD ws j 0)
+pub count-word : (w : ℕ) (f : ℕ → Bool) (ws : List ℕ) (j : ℕ) → MapsIn w f ws → j < w → countFrom (64 * (j + 1)) 0 f ≡ countFrom (64 * j) 0 f + ones (getD ws j 0)
 count-word w f ws j t h =
     let e : 64 * (j + 1) ≡ 64 * j + 64 = omega arith in
     let z : 0 + 64 * j ≡ 64 * j = omega arith in

@@ -26,14 +26,6 @@ pub given-else : (f : ℕ → Bool) (i k : ℕ) → (k ≡ i → ⊥) → givenA
 unfolding givenAt
 given-else f i k n = rw (ne-eqb k i n)
 
--- a slot that was free, taken and given back is as it was
-pub given-taken : (f : ℕ → Bool) (i k : ℕ) → f i ≡ true → givenAt (takenAt f i) i k ≡ f k
-given-taken f i k h = go (eqb k i) refl
-  where
-    go : (t : Bool) → eqb k i ≡ t → givenAt (takenAt f i) i k ≡ f k
-    go true e = let q : k ≡ i = eqb-true k i e in rw q (given-here (takenAt f i) i ∙ sym h)
-    go false e = given-else (takenAt f i) i k (eqb-false k i e) ∙ taken-else f i k (eqb-false k i e)
-
 -- ---- the lowest free slot
 
 pub first-most : (n b : ℕ) (f : ℕ → Bool) → firstFrom n b f ≤ b + n
@@ -170,27 +162,14 @@ given-frees f i h = record { was = given-here f i; is = h; else = λ j n. sym (g
 
 -- ---- the wire's slots
 
-pub slot-count : slotCount ≡ 256
-slot-count = refl
-
--- the lowest free slot is one of them or none is free
-pub lowest-most : (f : ℕ → Bool) → firstFree f ≤ slotCount
-lowest-most f = first-most slotCount 0 f
-
 pub lowest-free : (f : ℕ → Bool) → firstFree f < slotCount → f (firstFree f) ≡ true
 lowest-free f h = first-free slotCount 0 f h
 
 pub lowest-least : (f : ℕ → Bool) (k : ℕ) → k < firstFree f → f k ≡ false
 lowest-least f k h = first-least slotCount 0 f k (omega arith) h
 
-pub lowest-only : (f : ℕ → Bool) (i : ℕ) → i < slotCount → f i ≡ true → ((k : ℕ) → k < i → f k ≡ false) → i ≡ firstFree f
-lowest-only f i u e h = first-only slotCount 0 f i (omega arith) u e (λ k l. h k)
-
 pub some-free : (f : ℕ → Bool) → 0 < countFree f → firstFree f < slotCount
 some-free f h = first-count slotCount 0 f h
-
-pub free-some : (f : ℕ → Bool) → firstFree f < slotCount → 0 < countFree f
-free-some f h = count-first slotCount 0 f h
 
 -- one less is free after one was taken, one more after one is given back, and the others don't count
 pub count-taken : (f : ℕ → Bool) (i : ℕ) → i < slotCount → f i ≡ true → countFree (takenAt f i) + 1 ≡ countFree f
@@ -198,9 +177,3 @@ count-taken f i h e = let d : Filled f (takenAt f i) (0 + i) = rw (zero-add i) (
 
 pub count-given : (f : ℕ → Bool) (i : ℕ) → i < slotCount → f i ≡ false → countFree (givenAt f i) ≡ countFree f + 1
 count-given f i h e = let d : Filled (givenAt f i) f (0 + i) = rw (zero-add i) (given-frees f i e) in sym (count-filled slotCount 0 i (givenAt f i) f h d)
-
-pub count-given-past : (f : ℕ → Bool) (i : ℕ) → slotCount ≤ i → countFree (givenAt f i) ≡ countFree f
-count-given-past f i h = count-same slotCount 0 f (givenAt f i) (λ j l u. given-else f i j (λ e. omega arith))
-
-pub count-taken-none : (f : ℕ → Bool) → firstFree f ≡ slotCount → countFree (takenAt f (firstFree f)) ≡ countFree f
-count-taken-none f h = count-same slotCount 0 f (takenAt f (firstFree f)) (λ j l u. taken-else f (firstFree f) j (λ e. omega arith))

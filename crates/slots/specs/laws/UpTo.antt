@@ -7,8 +7,8 @@ use native.Mathlib.Omega.{arith}
 use lib.Dec.{ltb, eqb}
 use lib.ListN.{replicate, getD-replicate}
 use borrow.Author.Tests.{lt-ltb, le-ltb, ltb-true, ltb-false, eqb-true, eqb-false}
-use Rattle.slots.specs.Free.{wordCount, slotCount, markedAt}
-use Rattle.slots.specs.Words.{bitsFrom, Tied}
+use Rattle.slots.specs.Free.{mapWords, slotCount, markedAt}
+use Rattle.slots.specs.Words.{bitsFrom, Maps}
 use Rattle.slots.specs.laws.FreeLaws.{given-here, given-else}
 use Rattle.slots.specs.laws.Finding.{tied-same}
 
@@ -55,13 +55,13 @@ none-bits zero b f = refl
 none-bits (suc n) b f = rw (upto-above 0 f b (omega arith), none-bits n (b + 1) f)
 
 -- words of zeros say that no slot is free
-pub upto-start : (f : ℕ → Bool) → Tied (freeBelow 0 f) (replicate wordCount 0)
-upto-start f = record { size = refl; words = λ j h. getD-replicate wordCount j 0 0 h ∙ sym (none-bits 64 (64 * j) f) }
+pub upto-start : (f : ℕ → Bool) → Maps (freeBelow 0 f) (replicate mapWords 0)
+upto-start f = record { size = refl; words = λ j h. getD-replicate mapWords j 0 0 h ∙ sym (none-bits 64 (64 * j) f) }
 
 -- with slot i marked they are right up to the next
-pub upto-next : (i : ℕ) (f : ℕ → Bool) (ws : List ℕ) → Tied (markedAt (f i) (freeBelow i f) i) ws → Tied (freeBelow (i + 1) f) ws
-upto-next i f ws t = tied-same wordCount (markedAt (f i) (freeBelow i f) i) (freeBelow (i + 1) f) ws t (λ k l. sym (upto-marked i f k))
+pub upto-next : (i : ℕ) (f : ℕ → Bool) (ws : List ℕ) → Maps (markedAt (f i) (freeBelow i f) i) ws → Maps (freeBelow (i + 1) f) ws
+upto-next i f ws t = tied-same mapWords (markedAt (f i) (freeBelow i f) i) (freeBelow (i + 1) f) ws t (λ k l. sym (upto-marked i f k))
 
 -- and after all of them right
-pub upto-all : (f : ℕ → Bool) (ws : List ℕ) → Tied (freeBelow slotCount f) ws → Tied f ws
-upto-all f ws t = tied-same wordCount (freeBelow slotCount f) f ws t (λ k l. sym (upto-below slotCount f k l))
+pub upto-all : (f : ℕ → Bool) (ws : List ℕ) → Maps (freeBelow slotCount f) ws → Maps f ws
+upto-all f ws t = tied-same mapWords (freeBelow slotCount f) f ws t (λ k l. sym (upto-below slotCount f k l))

@@ -10,10 +10,11 @@ use lib.ListN.{take}
 use borrow.Author.Tests.{ltb-true}
 use Rattle.number.specs.Number.{taken, lastOf, valueOf, numberOf, numberAt, andThen}
 use Rattle.number.specs.Value.{alternatingOf, signedOf}
+use Rattle.record.specs.declared.Cell.{Cell}
 use Rattle.record.specs.declared.Entry.{Entry}
 use Rattle.number.specs.Below.{Bytes}
 use Rattle.record.specs.Entry.{upTo, fieldsAt, entryAt}
-use Rattle.record.specs.Record.{entries, faultAfter, standingAfter, before, enter, heldFrom, recordOf}
+use Rattle.record.specs.Record.{entries, faultAfter, standingAfter, before, enter, heldFrom, bytesHeld}
 use Rattle.record.specs.Examples.{sheetBytes}
 use Rattle.record.specs.laws.Sheet.{sheet-reads}
 use Rattle.law.specs.Operation.{operations}
@@ -24,7 +25,7 @@ use Rattle.pairs.specs.Pairs.{byteLimit}
 use Rattle.pairs.specs.laws.Enough.{enough}
 use Rattle.verdict.specs.declared.Verdict.{Verdict}
 use Rattle.verdict.specs.declared.Verdict.the-variants.{Lawful as saysLawful, Unlawful as saysUnlawful, Refused as saysRefused}
-use Rattle.verdict.specs.Verdict.{asksFor, askedAmong, repeats, distinctFrom, distinct, takenFor, Lowest, Judges}
+use Rattle.verdict.specs.Verdict.{asksFor, askedAmong, repeats, distinctFrom, distinct, takenFor, LowestCell, Judges}
 use Rattle.verdict.specs.Answers.{caseOf, refusalIn, entryIn, cellIn}
 use Rattle.verdict.specs.laws.OnlyOne.{one-verdict, refused-exactly}
 use Rattle.verdict.specs.laws.Sheet.{twice}
@@ -57,7 +58,7 @@ pub no-other : (s : List ℕ) → allBytes s ≡ true → (v : Verdict) → Judg
 no-other s e v p w q = one-verdict s (all-bytes s e) w v q p
 
 -- where all is about cell 2, it is the lowest that isn't lawful
-pub lowest-2 : (es : List Entry) → partOf 0 es ≡ [] → partOf 1 es ≡ [] → ¬ Lawful (operations (partOf 2 es)) → Lowest es 2
+pub lowest-2 : (es : List Entry) → partOf 0 es ≡ [] → partOf 1 es ≡ [] → ¬ Lawful (operations (partOf 2 es)) → LowestCell es 2
 lowest-2 es p q n = record { unlawful = n; below = below }
   where
     below : (d : ℕ) → d < 2 → Lawful (operations (partOf d es))
@@ -81,7 +82,7 @@ twelve-verdict = no-other sheetBytes refl saysLawful twelve-judged
 -- ---- with last byte 00: unlawful cell 2
 
 taken-stale : takenFor stale ≡ entries bad
-unfolding takenFor distinct distinctFrom repeats askedAmong asksFor recordOf heldFrom enter before faultAfter standingAfter entryAt fieldsAt andThen upTo numberAt numberOf valueOf lastOf taken alternatingOf signedOf
+unfolding takenFor distinct distinctFrom repeats askedAmong asksFor bytesHeld heldFrom enter before faultAfter standingAfter entryAt fieldsAt andThen upTo numberAt numberOf valueOf lastOf taken alternatingOf signedOf
 taken-stale = refl
 
 pub stale-judged : Judges (takenFor stale) (saysUnlawful (record { 0 = 2 }))
@@ -97,15 +98,15 @@ stale-verdict = no-other stale refl (saysUnlawful (record { 0 = 2 })) stale-judg
 pub not-always-lawful : Judges (takenFor stale) saysLawful → ⊥
 not-always-lawful j = let e = stale-verdict saysLawful j in let z : _≡_ {A = ℕ} 0 1 = cc in omega arith
 
-pub not-always-unlawful : Judges (takenFor sheetBytes) (saysUnlawful (record { 0 = 2 })) → ⊥
-not-always-unlawful j = let e = twelve-verdict (saysUnlawful (record { 0 = 2 })) j in let z : _≡_ {A = ℕ} 0 1 = cc in omega arith
+pub not-always-unlawful : (c : Cell) → Judges (takenFor sheetBytes) (saysUnlawful c) → ⊥
+not-always-unlawful c j = let e = twelve-verdict (saysUnlawful c) j in let z : _≡_ {A = ℕ} 0 1 = cc in omega arith
 
 pub not-always-refused : (k n : ℕ) → Judges (takenFor sheetBytes) (saysRefused k n) → ⊥
 not-always-refused k n j = let e = twelve-verdict (saysRefused k n) j in let z : _≡_ {A = ℕ} 0 1 = cc in omega arith
 
-pub not-another-cell : Judges (takenFor stale) (saysUnlawful (record { 0 = 0 })) → ⊥
+pub not-another-cell : (c : Cell) → (c .0 ≡ 2 → ⊥) → Judges (takenFor stale) (saysUnlawful c) → ⊥
 unfolding cellIn
-not-another-cell j = let z : _≡_ {A = ℕ} 0 2 = ap cellIn (stale-verdict (saysUnlawful (record { 0 = 0 })) j) in omega arith
+not-another-cell c n j = n (ap cellIn (stale-verdict (saysUnlawful c) j))
 
 -- ---- what answers say
 

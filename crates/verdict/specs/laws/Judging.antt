@@ -7,7 +7,7 @@ use lib.ListN.{length, getD}
 use Rattle.record.specs.declared.Entry.{Entry}
 use Rattle.record.specs.declared.Answer.{Answer}
 use Rattle.record.specs.declared.Answer.the-variants.{All, Refused}
-use Rattle.record.specs.Record.{Held, entries, fault, recordOf, surveyOf}
+use Rattle.record.specs.Record.{Held, entries, fault, bytesHeld, surveyOf}
 use Rattle.record.specs.Legal.{Legal}
 use Rattle.law.specs.Operation.{Op, operations}
 use Rattle.law.specs.Order.{Lawful}
@@ -85,7 +85,7 @@ module _ (s : List ℕ) (kinds cells values starts : List ℕ) (r : Answer) (p :
   -- a fault of the bytes is the verdict
   pub judges-fault : (k n : ℕ) → r ≡ Refused k n → Judges (takenFor s) (saysRefused k n)
   unfolding takenFor distinct surveyOf
-  judges-fault k n e = go (recordOf s) (sym (p .answer) ∙ e)
+  judges-fault k n e = go (bytesHeld s) (sym (p .answer) ∙ e)
     where
       go : (h : Held) → surveyOf h ≡ Refused k n → distinct h ≡ fault k n
       go (entries es) q = let z : _≡_ {A = ℕ} 0 1 = cc in absurd (omega arith)
@@ -93,16 +93,16 @@ module _ (s : List ℕ) (kinds cells values starts : List ℕ) (r : Answer) (p :
 
   module _ (bytes : (i : ℕ) → getD s i 0 < 256) (n : ℕ) (all : r ≡ All n) where
     -- the entries that the bytes hold
-    record-of : (es : List Entry) × ((recordOf s ≡ entries es) × (length es ≡ n))
+    record-of : (es : List Entry) × ((bytesHeld s ≡ entries es) × (length es ≡ n))
     unfolding surveyOf
-    record-of = go (recordOf s) refl (sym (p .answer) ∙ all)
+    record-of = go (bytesHeld s) refl (sym (p .answer) ∙ all)
       where
-        go : (h : Held) → recordOf s ≡ h → surveyOf h ≡ All n → (es : List Entry) × ((recordOf s ≡ entries es) × (length es ≡ n))
+        go : (h : Held) → bytesHeld s ≡ h → surveyOf h ≡ All n → (es : List Entry) × ((bytesHeld s ≡ entries es) × (length es ≡ n))
         go (entries es) e q = (es, (e, cc))
         go (fault i j) e q = let z : _≡_ {A = ℕ} 0 1 = cc in absurd (omega arith)
 
     -- and the arrays hold them
-    holds-all : (es : List Entry) → recordOf s ≡ entries es → length es ≡ n → Holds (arrays kinds cells values starts) n (operations es)
+    holds-all : (es : List Entry) → bytesHeld s ≡ entries es → length es ≡ n → Holds (arrays kinds cells values starts) n (operations es)
     holds-all es e l =
         let legal = reading-legal s es bytes e in
         record {

@@ -5,7 +5,7 @@ use mathlib.Core.Bool.{Bool, true, false, cond}
 use mathlib.Core.List.{List, [], _∷_}
 use native.Mathlib.Omega.{arith}
 use Rattle.record.specs.declared.Entry.{Entry}
-use Rattle.record.specs.Record.{Held, entries, fault, recordOf}
+use Rattle.record.specs.Record.{Held, entries, fault, bytesHeld}
 use Rattle.record.specs.laws.Refusals.{record-faults, no-entries}
 use Rattle.verdict.specs.declared.Verdict.the-variants.{Refused as saysRefused}
 use Rattle.verdict.specs.Verdict.{repeats, distinctFrom, distinct, takenFor, Judges}
@@ -24,9 +24,9 @@ distinct-refusals earlier (e ∷ es) n whole k m h p = go (repeats earlier e) p 
 
 pub taken-refusals : (s : List ℕ) (k n : ℕ) → takenFor s ≡ fault k n → (21 ≤ k) × (k ≤ 29)
 unfolding takenFor distinct
-taken-refusals s k n p = go (recordOf s) refl p
+taken-refusals s k n p = go (bytesHeld s) refl p
   where
-    go : (h : Held) → recordOf s ≡ h → distinct h ≡ fault k n → (21 ≤ k) × (k ≤ 29)
+    go : (h : Held) → bytesHeld s ≡ h → distinct h ≡ fault k n → (21 ≤ k) × (k ≤ 29)
     go (entries es) e q = distinct-refusals [] es 0 (entries es) k n (λ r. no-entries r) q
     go (fault i j) e q = let b = record-faults s k n (e ∙ q) in (b .least, omega (arith, b .most))
 

@@ -1,5 +1,5 @@
 -- `words::count_of` meets its contract.
-use Rattle.layout.specs.Reading.{countOf}
+use Rattle.layout.specs.Reading.{entryCount}
 use borrow.Author.Needs.{needs}
 use native.Mathlib.Omega.{arith}
 use Rattle.words.proofs.count_of.Statement.{statement}
@@ -15,11 +15,11 @@ cast-result : tie.Need-cast-result
 cast-result c = search needs
 
 returns : tie.Need-returns
-unfolding countOf
+unfolding entryCount
 returns c = (omega arith, search needs)
 
 returns-2 : tie.Need-returns-2
-unfolding countOf
+unfolding entryCount
 returns-2 c = (omega arith, omega arith)
 
 pub count-of-spec : {M : Type 1} → statement M
