@@ -8,7 +8,7 @@ ghost use Rattle.exports.specs.Unpacked.{AnswerFits, VerdictFits, RunFit
 ghost use Rattle.layout.specs.Calls.{madeOutcome, runOutcome};
 use number::Number;
 use number::Put;
-use record::WordsAnswer;
+use record::Answer;
 use verdict::Verdict;
 
 // The number at a place, with how many bytes it takes.
@@ -50,13 +50,13 @@ pub extern "C" fn adze_signed(n: u32) -> i32
 }
 
 // A record's answer as one number.
-fn packed(a: WordsAnswer) -> u64
+fn packed(a: Answer) -> u64
     requires { ⌜ AnswerFits a ⌝ }
     ensures { λ r. ⌜ r ≡ packedAnswer a ⌝ }
 {
     match a {
-        WordsAnswer::All(n) => n as u64,
-        WordsAnswer::Refused(k, n) => 4294967296 * (k as u64) + n as u64,
+        Answer::All(n) => n as u64,
+        Answer::Refused(k, n) => 4294967296 * (k as u64) + n as u64,
     }
 }
 
