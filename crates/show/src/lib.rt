@@ -35,7 +35,6 @@ use text::put_field;
 use text::put_hex;
 use text::put_value;
 use text::put_words;
-use writer::ENTRY_BYTES;
 use writer::write_entry;
 
 // ---- a slot's line
@@ -365,7 +364,10 @@ fn put_replicas(out: &mut [u8], at: usize, rack: Rack) -> usize
 
 // ---- the record
 
-// An entry's bytes in hex, by way of as many as an entry has at most.
+// The most bytes that an entry has: four numbers of five.
+const ENTRY_BYTES: usize = 20;
+
+// An entry's bytes in hex.
 fn put_entry(out: &mut [u8], at: usize, e: Entry) -> usize
     ensures { λ r. ⌜ Printed (now (out .entry)) at (hexText (entryBytes e)) r (now (out .exit)) ⌝ }
 {

@@ -19,9 +19,6 @@ use record::Found;
 use record::Standing;
 use rows::row_of;
 
-// The most bytes that an entry has: four numbers of five.
-pub const ENTRY_BYTES: usize = 20;
-
 // What four numbers of a row are; `next` is the place after them. A field that the kind hasn't got isn't looked at.
 fn row_found(kind: u32, client: u32, cell: u32, value: u32, next: usize) -> Found
     ensures { λ r. ⌜ r ≡ rowFound kind client cell value next ⌝ }
