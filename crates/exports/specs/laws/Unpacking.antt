@@ -140,7 +140,8 @@ pub read-number-back : (s : List ℕ) (at : ℕ) → Bytes s → unpackedNumber 
 read-number-back s at b = number-back at (numberAt s at) (number-fits s at b (numberAt s at) refl)
 
 -- adze_write_number
-pub write-number-parts : (d : List ℕ) (at n : ℕ) → Parts (packedPut at (putAnswer d at (numberBytes n))) (putRefusalOf (putAnswer d at (numberBytes n))) 0 (putNextIn (putAnswer d at (numberBytes n)) - at)
+pub write-number-parts : (d : List ℕ) (at n : ℕ)
+    → Parts (packedPut at (putAnswer d at (numberBytes n))) (putRefusalOf (putAnswer d at (numberBytes n))) 0 (putNextIn (putAnswer d at (numberBytes n)) - at)
 write-number-parts d at n = put-parts at (putAnswer d at (numberBytes n)) (put-fits-bits d at n (putAnswer d at (numberBytes n)) refl)
 
 pub write-number-back : (d : List ℕ) (at n : ℕ) → unpackedPut at (packedPut at (putAnswer d at (numberBytes n))) ≡ putAnswer d at (numberBytes n)
