@@ -1,6 +1,6 @@
 // The calls for C and Rust: include/adzequarry.h has their declarations. An enum can't cross to C, so an answer is packed into one number.
 ghost use mathlib.Core.Path.{_≡_};
-ghost use Rattle.number.specs.Number.{numberAt, putAnswer, putBytes};
+ghost use Rattle.number.specs.Number.{numberBytes, numberAt, putAnswer, putBytes};
 ghost use Rattle.number.specs.Value.{alternatingOf, signedOf};
 ghost use Rattle.rows.specs.Rows.{readOutcome, writeOutcome};
 ghost use Rattle.exports.specs.Packed.{packedNumber, packedPut, packedAnswer, packedVerdict, Judged, packedRun};
@@ -25,7 +25,7 @@ pub extern "C" fn adze_read_number(bytes: &[u8], at: usize) -> u64
 // Writes a number at a place.
 #[no_mangle]
 pub extern "C" fn adze_write_number(bytes: &mut [u8], at: usize, n: u32) -> u64
-    ensures { λ r. ⌜ (r ≡ packedPut at (putAnswer (now (bytes .entry)) at n)) × (now (bytes .exit) ≡ putBytes (now (bytes .entry)) at n) ⌝ }
+    ensures { λ r. ⌜ (r ≡ packedPut at (putAnswer (now (bytes .entry)) at (numberBytes n))) × (now (bytes .exit) ≡ putBytes (now (bytes .entry)) at (numberBytes n)) ⌝ }
 {
     match number::write_number(bytes, at, n) {
         Put::Next(next) => 1099511627776 * ((next - at) as u64),

@@ -7,13 +7,12 @@ use native.Mathlib.Numerals.{add-one}
 use lib.ListN.{drop, length, getD, set, length-set, drop-of-length-le}
 use lib.Seq.{drop-cons, sets}
 use borrow.Author.Tests.{lt-ltb, le-ltb}
-use Rattle.number.specs.Number.{groupsOf, numberBytes, Placed}
+use Rattle.number.specs.Number.{groupsOf, numberBytes}
 use Rattle.number.specs.laws.Steps.{readGo, push}
 use Rattle.number.specs.laws.Trip.{read-below}
-use Rattle.number.specs.laws.NumberLaws.{top, groups-small, groups-more, groups-some, put-fits, put-writes, put-refused, put-keeps}
+use Rattle.number.specs.laws.NumberLaws.{top, groups-small, groups-more, groups-some}
 use Rattle.number.specs.declared.Number.{Number}
 use Rattle.number.specs.declared.Number.the-variants.{Is, Refused}
-use Rattle.number.specs.declared.Put.the-variants.{Next, NoRoom}
 
 -- ---- reading
 
@@ -112,11 +111,3 @@ step buf₀ at all buf i m (suc f) h small room long place same =
 -- the last group
 pub finish : (buf : List ℕ) (i m f : ℕ) → m < 128 → (length (groupsOf f m) ≡ 1) × (sets buf i (groupsOf f m) ≡ set buf i m)
 finish buf i m f h = simp (groups-small f m h) (refl, refl)
-
--- what doesn't fit is refused, and nothing is written
-pub refuses : (d : List ℕ) (at n : ℕ) → length d < at + length (numberBytes n) → Placed d at n NoRoom d
-refuses d at n h = record { answer = sym (put-refused d at n h); bytes = sym (put-keeps d at n h) }
-
--- what fits is written
-pub places : (d : List ℕ) (at n next : ℕ) (d′ : List ℕ) → at + length (numberBytes n) ≤ length d → next ≡ at + length (numberBytes n) → d′ ≡ sets d at (numberBytes n) → Placed d at n (Next next) d′
-places d at n next d′ h p q = record { answer = ap Next p ∙ sym (put-fits d at n h); bytes = q ∙ sym (put-writes d at n h) }

@@ -67,19 +67,19 @@ unfoldable pub andThen : {A : Type 0} → (ℕ → A) → Number → (ℕ → �
 andThen refuse (Refused k) go = refuse k
 andThen refuse (Is n next) go = go n next
 
--- whether a number fits at place at
-abbrev pub fitsAt : List ℕ → ℕ → ℕ → Bool
-fitsAt d at n = leb (at + length (numberBytes n)) (length d)
+-- whether the bytes bs, a number's or an entry's, fit at place at
+abbrev pub fitsAt : List ℕ → ℕ → List ℕ → Bool
+fitsAt d at bs = leb (at + length bs) (length d)
 
--- what writing the number n at place at of d answers
-unfoldable pub putAnswer : List ℕ → ℕ → ℕ → Put
-putAnswer d at n = cond (fitsAt d at n) (Next (at + length (numberBytes n))) NoRoom
+-- what writing them at place at of d answers
+unfoldable pub putAnswer : List ℕ → ℕ → List ℕ → Put
+putAnswer d at bs = cond (fitsAt d at bs) (Next (at + length bs)) NoRoom
 
--- and what then stands in d: its bytes from place at on, the others as they were; all as it was where it doesn't fit
-unfoldable pub putBytes : List ℕ → ℕ → ℕ → List ℕ
-putBytes d at n = cond (fitsAt d at n) (sets d at (numberBytes n)) d
+-- and what then stands in d: they from place at on, the others as they were; all as it was where they don't fit
+unfoldable pub putBytes : List ℕ → ℕ → List ℕ → List ℕ
+putBytes d at bs = cond (fitsAt d at bs) (sets d at bs) d
 
--- what writing the number n at place at of d has to do: answer r, and d′ stands there after
-pub record Placed (d : List ℕ) (at n : ℕ) (r : Put) (d′ : List ℕ) : Type 0 where
-  pub answer : r ≡ putAnswer d at n
-  pub bytes : d′ ≡ putBytes d at n
+-- what writing them at place at of d has to do: answer r, and d′ stands there after
+pub record Placed (d : List ℕ) (at : ℕ) (bs : List ℕ) (r : Put) (d′ : List ℕ) : Type 0 where
+  pub answer : r ≡ putAnswer d at bs
+  pub bytes : d′ ≡ putBytes d at bs

@@ -12,7 +12,7 @@ pub enum Number {
     Refused(u8),
 }
 
-// What writing one number gives: the place after it, or that it doesn't fit.
+// What writing bytes at a place gives, a number's or an entry's: the place after them, or that they don't fit.
 pub enum Put {
     Next(usize),
     NoRoom,
@@ -75,7 +75,7 @@ pub fn number_length(n: u32) -> usize
 // Writes a number that fits: a group at a time, the lowest first.
 fn write_groups(buf: &mut [u8], at: usize, n: u32) -> Put
     requires { ⌜ at + length (numberBytes n) ≤ length (now buf) ⌝ }
-    ensures { λ r. ⌜ Placed (now (buf .entry)) at n r (now (buf .exit)) ⌝ }
+    ensures { λ r. ⌜ Placed (now (buf .entry)) at (numberBytes n) r (now (buf .exit)) ⌝ }
 {
     let mut i = at;
     let mut m = n;
@@ -90,7 +90,7 @@ fn write_groups(buf: &mut [u8], at: usize, n: u32) -> Put
 
 // Writes a number at `at`, or nothing where it doesn't fit from there on.
 pub fn write_number(buf: &mut [u8], at: usize, n: u32) -> Put
-    ensures { λ r. ⌜ Placed (now (buf .entry)) at n r (now (buf .exit)) ⌝ }
+    ensures { λ r. ⌜ Placed (now (buf .entry)) at (numberBytes n) r (now (buf .exit)) ⌝ }
 {
     let room = buf.len();
     if room < at {

@@ -23,7 +23,7 @@ fn put_row(rows: &mut [u32], at: usize, row: [u32; 4])
 }
 
 // An entry as a row of four numbers; a field that its kind hasn't got stands as 0.
-fn row_of(e: Entry) -> [u32; 4]
+pub fn row_of(e: Entry) -> [u32; 4]
     ensures { λ r. ⌜ r ≡ rowOf e ⌝ }
 {
     match e {

@@ -11,7 +11,14 @@ use lib.Dec.{ltb}
 use borrow.Author.Tests.{ltb-true, ltb-false}
 use Rattle.text.specs.Text.{hexText, Printed}
 use Rattle.text.specs.laws.Printing.{nothing, join, same-text, hex-append}
+use Rattle.number.specs.Number.{Placed}
+use Rattle.number.specs.laws.NumberLaws.{placed-next, placed-fits}
+use Rattle.number.specs.laws.WroteLaws.{wrote-front}
+use Rattle.number.specs.declared.Put.{Put}
+use Rattle.number.specs.declared.Put.the-variants.{Next, NoRoom}
+use Rattle.record.specs.declared.Entry.{Entry}
 use Rattle.record.specs.Entry.{entryBytes}
+use Rattle.record.specs.laws.EntryTrip.{entry-most}
 use Rattle.record.specs.Record.{allOf, bytesOf}
 use Rattle.rack.specs.declared.Line.{Line}
 use Rattle.lines.specs.Lines.{eachBelow}
@@ -31,6 +38,16 @@ module _ {l : List ℕ} {at : ℕ} (f : ℕ → List ℕ) where
   each-all i n h k v = let e : i ≡ n = omega arith in same-text (ap (λ (m : ℕ). eachBelow m f) e) v
 
 -- ---- the record's entries in hex
+
+-- twenty bytes have room for an entry, and its bytes are what then stands in front
+module _ (d d′ : List ℕ) (e : Entry) (r : Put) (h : length d ≡ 20) (p : Placed d 0 (entryBytes e) r d′) where
+  pub entry-front : (next : ℕ) → r ≡ Next next → (next ≤ length d′) × (take next d′ ≡ entryBytes e)
+  entry-front next q =
+      let few = entry-most e in
+      wrote-front (omega arith) (placed-next d 0 (entryBytes e) d′ next r (omega arith) p q)
+
+  pub entry-room : r ≡ NoRoom → ⊥
+  entry-room q = let few = entry-most e in placed-fits d 0 (entryBytes e) d′ r (omega arith) p q
 
 abbrev entriesText : List Line → List ℕ
 entriesText ls = hexText (bytesOf (map (λ (l : Line). l .entry) ls))

@@ -3,7 +3,6 @@ ghost use mathlib.Core.Path.{_≡_};
 ghost use mathlib.Core.List.{_++_, map};
 ghost use Prim.Native.Nat.{min};
 ghost use lib.ListN.{getD, take};
-ghost use Rattle.number.specs.Number.{numberBytes};
 ghost use Rattle.text.specs.Text.{field, refusedWord, lineFeed, hexText, Printed};
 ghost use Rattle.record.specs.Entry.{entryBytes};
 ghost use Rattle.record.specs.Record.{entryLimit, bytesOf};
@@ -20,6 +19,7 @@ use method::InSlot;
 use method::Message;
 use method::Party;
 use method::Work;
+use number::Put;
 use rack::Line;
 use rack::Rack;
 use rack::Ran;
@@ -33,9 +33,10 @@ use stamps::Pair;
 use stamps::fresh_pair;
 use text::put_decimal;
 use text::put_field;
-use text::put_hex_number;
+use text::put_hex;
 use text::put_value;
 use text::put_words;
+use writer::write_entry;
 
 // ---- a slot's line
 
@@ -371,43 +372,17 @@ fn put_replicas(out: &mut [u8], at: usize, rack: Rack) -> usize
 
 // ---- the record
 
-// Two, three and four numbers, in hex as they are written in a record.
-fn put_two(out: &mut [u8], at: usize, x: u32, y: u32) -> usize
-    ensures { λ r. ⌜ Printed (now (out .entry)) at (hexText (numberBytes x ++ numberBytes y)) r (now (out .exit)) ⌝ }
-{
-    let next = put_hex_number(out, at, x);
-    put_hex_number(out, next, y)
-}
+// The most bytes that an entry has: four numbers of five.
+const ENTRY_BYTES: usize = 20;
 
-fn put_three(out: &mut [u8], at: usize, x: u32, y: u32, z: u32) -> usize
-    ensures { λ r. ⌜ Printed (now (out .entry)) at (hexText (numberBytes x ++ (numberBytes y ++ numberBytes z))) r (now (out .exit)) ⌝ }
-{
-    let next = put_hex_number(out, at, x);
-    put_two(out, next, y, z)
-}
-
-fn put_four(out: &mut [u8], at: usize, x: u32, y: u32, z: u32, w: u32) -> usize
-    ensures { λ r. ⌜ Printed (now (out .entry)) at (hexText (numberBytes x ++ (numberBytes y ++ (numberBytes z ++ numberBytes w)))) r (now (out .exit)) ⌝ }
-{
-    let next = put_hex_number(out, at, x);
-    put_three(out, next, y, z, w)
-}
-
+// An entry's bytes in hex.
 fn put_entry(out: &mut [u8], at: usize, e: Entry) -> usize
     ensures { λ r. ⌜ Printed (now (out .entry)) at (hexText (entryBytes e)) r (now (out .exit)) ⌝ }
 {
-    match e {
-        Entry::ReadAsked(client, cell) => put_three(out, at, 0, client.0 as u32, cell.0 as u32),
-        Entry::WriteAsked(client, cell, v) => put_four(
-            out,
-            at,
-            1,
-            client.0 as u32,
-            cell.0 as u32,
-            number::alternating(v),
-        ),
-        Entry::Told(client, v) => put_three(out, at, 2, client.0 as u32, number::alternating(v)),
-        Entry::Done(client) => put_two(out, at, 3, client.0 as u32),
+    let mut bytes = [0u8; ENTRY_BYTES];
+    match write_entry(&mut bytes, 0, e) {
+        Put::Next(next) => put_hex(out, at, &bytes[..next]),
+        Put::NoRoom => at,
     }
 }
 

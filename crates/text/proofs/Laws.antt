@@ -1,18 +1,14 @@
 -- What one more byte of a text leaves.
 use Prim.Native.Nat.{ℕ, zero, suc, _+_, _-_, _/_, _%_, _≤_, _<_}
-use mathlib.Core.Path.{_≡_, refl, sym, ap, ap₂, _∙_}
+use mathlib.Core.Path.{_≡_, refl, sym, ap, _∙_}
 use mathlib.Core.List.{List, [], _∷_, _++_, append-nil}
 use native.Mathlib.Omega.{arith}
 use native.Mathlib.Numerals.{add-one}
-use lib.ListN.{length, getD, take, drop}
-use lib.Seq.{take-suc, take-all, sets, sets-eq, length-sets, take-append-seam}
+use lib.ListN.{length, getD, take}
+use lib.Seq.{take-suc, take-all}
 use lib.IntN.{ℤ, pos, negsuc}
 use borrow.Author.Tests.{lt-ltb, le-ltb}
 use Rattle.number.specs.Value.{alternatingOf}
-use Rattle.number.specs.Number.{numberBytes, Placed}
-use Rattle.number.specs.laws.NumberLaws.{length-few, put-fits, put-writes}
-use Rattle.number.specs.declared.Put.{Put}
-use Rattle.number.specs.declared.Put.the-variants.{Next, NoRoom}
 use Rattle.text.specs.Text.{digitsOf, decimal, valueText, hexByte, hexText, Printed}
 use Rattle.text.specs.laws.Printing.{nothing, join, same-text, hex-append}
 
@@ -77,29 +73,3 @@ module _ {l : List ℕ} {at r : ℕ} {l′ : List ℕ} where
   unfolding alternatingOf valueText
   value-odd (pos m) n e h w = absurd (h (omega arith))
   value-odd (negsuc m) n e h w = let d : n / 2 ≡ m = omega arith in same-text (ap (λ (k : ℕ). 45 ∷ decimal (k + 1)) d) w
-
--- ---- a number's bytes, in five bytes that were lent for them
-
--- they fit, and they are what stands in front
-pub record InFive (n next : ℕ) (d : List ℕ) : Type 0 where
-  pub few : next ≤ length d
-  pub are : take next d ≡ numberBytes n
-
-pub in-five : (d d′ : List ℕ) (n next : ℕ) (r : Put) → length d ≡ 5 → Placed d 0 n r d′ → r ≡ Next next → InFive n next d′
-in-five d d′ n next r h p q =
-    let few = length-few n in
-    let a : Next next ≡ Next (0 + length (numberBytes n)) = sym q ∙ p .answer ∙ put-fits d 0 n (omega arith) in
-    let e : next ≡ 0 + length (numberBytes n) = cc in
-    let f : next ≡ length (numberBytes n) = omega arith in
-    let s : d′ ≡ sets d 0 (numberBytes n) = p .bytes ∙ put-writes d 0 n (omega arith) in
-    let front : sets d 0 (numberBytes n) ≡ numberBytes n ++ drop (0 + length (numberBytes n)) d = sets-eq (numberBytes n) d 0 (omega arith) in
-    record {
-      few = omega (arith, ap length s, length-sets d 0 (numberBytes n));
-      are = ap₂ (λ (k : ℕ) (xs : List ℕ). take k xs) f (s ∙ front) ∙ take-append-seam (numberBytes n) (drop (0 + length (numberBytes n)) d);
-    }
-
-pub always-room : (d d′ : List ℕ) (n : ℕ) (r : Put) {A : Type 0} → length d ≡ 5 → Placed d 0 n r d′ → r ≡ NoRoom → A
-always-room d d′ n r h p q =
-    let few = length-few n in
-    let a : NoRoom ≡ Next (0 + length (numberBytes n)) = sym q ∙ p .answer ∙ put-fits d 0 n (omega arith) in
-    let z : _≡_ {A = ℕ} 0 1 = cc in absurd (omega arith)

@@ -2,9 +2,7 @@
 ghost use mathlib.Core.Path.{_≡_};
 ghost use mathlib.Core.List.{[], _∷_};
 ghost use Prim.Native.Nat.{_<_};
-ghost use Rattle.number.specs.Number.{numberBytes};
 ghost use Rattle.text.specs.Text.{digitsOf, decimal, field, valueText, hexDigit, hexByte, hexText, Printed};
-use number::Put;
 
 // One byte.
 fn put_byte(out: &mut [u8], at: usize, b: u8) -> usize
@@ -86,7 +84,7 @@ fn put_hex_byte(out: &mut [u8], at: usize, b: u8) -> usize
 }
 
 // Bytes, each in two digits and a space before it.
-fn put_hex_bytes(out: &mut [u8], at: usize, bytes: &[u8]) -> usize
+pub fn put_hex(out: &mut [u8], at: usize, bytes: &[u8]) -> usize
     ensures { λ r. ⌜ Printed (now (out .entry)) at (hexText (now (bytes .entry))) r (now (out .exit)) ⌝ }
 {
     let mut next = at;
@@ -96,15 +94,4 @@ fn put_hex_bytes(out: &mut [u8], at: usize, bytes: &[u8]) -> usize
         i += 1;
     }
     next
-}
-
-// The bytes of a number as it is written in a record.
-pub fn put_hex_number(out: &mut [u8], at: usize, n: u32) -> usize
-    ensures { λ r. ⌜ Printed (now (out .entry)) at (hexText (numberBytes n)) r (now (out .exit)) ⌝ }
-{
-    let mut five = [0u8; 5];
-    match number::write_number(&mut five, 0, n) {
-        Put::Next(next) => put_hex_bytes(out, at, &five[..next]),
-        Put::NoRoom => at,
-    }
 }

@@ -1,16 +1,15 @@
-// The writer: bytes from rows in lent memory.
+// The writer: an entry's bytes, and those of the record that rows in lent memory hold.
 ghost use mathlib.Core.Path.{_≡_};
 ghost use Prim.Native.Nat.{_+_, _≤_};
 ghost use lib.ListN.{length};
-ghost use mathlib.Core.List.{_++_};
-ghost use Rattle.number.specs.Number.{numberBytes};
+ghost use Rattle.number.specs.Number.{numberBytes, Placed};
 ghost use Rattle.record.specs.Entry.{entryBytes};
 ghost use Rattle.rows.specs.Row.{rowFound, rowAt};
 ghost use Rattle.rows.specs.Rows.{rowsHeld, writeOutcome, Leaves};
 ghost use Rattle.rows.specs.laws.Storing.{measureOf, Writable};
 ghost use Rattle.number.specs.Wrote.{Wrote};
-ghost use Rattle.number.specs.laws.WroteLaws.{Long};
 use number::Put;
+use number::number_length;
 use record::Answer;
 use record::Cell;
 use record::Client;
@@ -18,6 +17,7 @@ use record::ENTRY_LIMIT;
 use record::Entry;
 use record::Found;
 use record::Standing;
+use rows::row_of;
 
 // What four numbers of a row are; `next` is the place after them. A field that the kind hasn't got isn't looked at.
 fn row_found(kind: u32, client: u32, cell: u32, value: u32, next: usize) -> Found
@@ -65,40 +65,24 @@ fn row_at(rows: &[u32], at: usize) -> Found
     row_found(rows[at], rows[at + 1], rows[at + 2], rows[at + 3], at + 4)
 }
 
-// How many bytes two, three and four numbers take.
-fn two_length(x: u32, y: u32) -> usize
-    ensures { λ r. ⌜ Long (numberBytes x ++ numberBytes y) 10 r ⌝ }
-{
-    number::number_length(x) + number::number_length(y)
-}
-
-fn three_length(x: u32, y: u32, z: u32) -> usize
-    ensures { λ r. ⌜ Long (numberBytes x ++ (numberBytes y ++ numberBytes z)) 15 r ⌝ }
-{
-    number::number_length(x) + two_length(y, z)
-}
-
-fn four_length(x: u32, y: u32, z: u32, w: u32) -> usize
-    ensures { λ r. ⌜ Long (numberBytes x ++ (numberBytes y ++ (numberBytes z ++ numberBytes w))) 20 r ⌝ }
-{
-    number::number_length(x) + three_length(y, z, w)
-}
-
-// How many bytes an entry takes.
+// How many bytes an entry takes: those of its row's numbers, without the fields that its kind hasn't got.
 fn entry_length(e: Entry) -> usize
-    ensures { λ r. ⌜ Long (entryBytes e) 20 r ⌝ }
+    ensures { λ r. ⌜ r ≡ length (entryBytes e) ⌝ }
 {
-    match e {
-        Entry::ReadAsked(client, cell) => three_length(0, client.0 as u32, cell.0 as u32),
-        Entry::WriteAsked(client, cell, v) => four_length(
-            1,
-            client.0 as u32,
-            cell.0 as u32,
-            number::alternating(v),
-        ),
-        Entry::Told(client, v) => three_length(2, client.0 as u32, number::alternating(v)),
-        Entry::Done(client) => two_length(3, client.0 as u32),
+    let row = row_of(e);
+    let kind = row[0];
+    let two = number_length(kind) + number_length(row[1]);
+    if kind == 3 {
+        return two;
     }
+    if kind == 2 {
+        return two + number_length(row[3]);
+    }
+    let three = two + number_length(row[2]);
+    if kind == 0 {
+        return three;
+    }
+    three + number_length(row[3])
 }
 
 // How many bytes the rows take as a record, or the first fault.
@@ -142,49 +126,40 @@ fn put_number(bytes: &mut [u8], at: usize, n: u32) -> usize
     }
 }
 
-// Two, three and four numbers that fit, one after another.
-fn put_two(bytes: &mut [u8], at: usize, x: u32, y: u32) -> usize
-    requires { ⌜ at + length (numberBytes x ++ numberBytes y) ≤ length (now bytes) ⌝ }
-    ensures { λ r. ⌜ Wrote (now (bytes .entry)) at (numberBytes x ++ numberBytes y) r (now (bytes .exit)) ⌝ }
-{
-    let next = put_number(bytes, at, x);
-    put_number(bytes, next, y)
-}
-
-fn put_three(bytes: &mut [u8], at: usize, x: u32, y: u32, z: u32) -> usize
-    requires { ⌜ at + length (numberBytes x ++ (numberBytes y ++ numberBytes z)) ≤ length (now bytes) ⌝ }
-    ensures { λ r. ⌜ Wrote (now (bytes .entry)) at (numberBytes x ++ (numberBytes y ++ numberBytes z)) r (now (bytes .exit)) ⌝ }
-{
-    let next = put_number(bytes, at, x);
-    put_two(bytes, next, y, z)
-}
-
-fn put_four(bytes: &mut [u8], at: usize, x: u32, y: u32, z: u32, w: u32) -> usize
-    requires { ⌜ at + length (numberBytes x ++ (numberBytes y ++ (numberBytes z ++ numberBytes w))) ≤ length (now bytes) ⌝ }
-    ensures { λ r. ⌜ Wrote (now (bytes .entry)) at (numberBytes x ++ (numberBytes y ++ (numberBytes z ++ numberBytes w))) r (now (bytes .exit)) ⌝ }
-{
-    let next = put_number(bytes, at, x);
-    put_three(bytes, next, y, z, w)
-}
-
-// An entry that fits.
+// An entry that fits: its row's numbers in order, without the fields that its kind hasn't got.
 fn put_entry(bytes: &mut [u8], at: usize, e: Entry) -> usize
     requires { ⌜ at + length (entryBytes e) ≤ length (now bytes) ⌝ }
     ensures { λ r. ⌜ Wrote (now (bytes .entry)) at (entryBytes e) r (now (bytes .exit)) ⌝ }
 {
-    match e {
-        Entry::ReadAsked(client, cell) => put_three(bytes, at, 0, client.0 as u32, cell.0 as u32),
-        Entry::WriteAsked(client, cell, v) => put_four(
-            bytes,
-            at,
-            1,
-            client.0 as u32,
-            cell.0 as u32,
-            number::alternating(v),
-        ),
-        Entry::Told(client, v) => put_three(bytes, at, 2, client.0 as u32, number::alternating(v)),
-        Entry::Done(client) => put_two(bytes, at, 3, client.0 as u32),
+    let row = row_of(e);
+    let kind = row[0];
+    let a = put_number(bytes, at, kind);
+    let b = put_number(bytes, a, row[1]);
+    if kind == 3 {
+        return b;
     }
+    if kind == 2 {
+        return put_number(bytes, b, row[3]);
+    }
+    let c = put_number(bytes, b, row[2]);
+    if kind == 0 {
+        return c;
+    }
+    put_number(bytes, c, row[3])
+}
+
+// Writes an entry at `at`, or nothing where it doesn't fit from there on.
+pub fn write_entry(bytes: &mut [u8], at: usize, e: Entry) -> Put
+    ensures { λ r. ⌜ Placed (now (bytes .entry)) at (entryBytes e) r (now (bytes .exit)) ⌝ }
+{
+    let room = bytes.len();
+    if room < at {
+        return Put::NoRoom;
+    }
+    if room - at < entry_length(e) {
+        return Put::NoRoom;
+    }
+    Put::Next(put_entry(bytes, at, e))
 }
 
 // Writes the entries that the rows hold.

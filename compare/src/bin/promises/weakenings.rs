@@ -102,7 +102,7 @@ const WEAKENINGS: &[Weakening] = &[
     },
     Weakening {
         label: "what stands in lent memory after a write no longer said",
-        edits: &[edit("number", "Number.antt", "  pub bytes : d′ ≡ putBytes d at n\n", "")],
+        edits: &[edit("number", "Number.antt", "  pub bytes : d′ ≡ putBytes d at bs\n", "")],
         mentions: "pub bytes",
     },
     Weakening {

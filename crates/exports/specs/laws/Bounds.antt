@@ -56,11 +56,11 @@ number-fits s at b (Is n next) p =
     (w .below, omega (arith, w .far, length-some n), omega (arith, w .far, length-few n))
 number-fits s at b (Refused k) p = refusal-bounds s at k p
 
-pub put-fits-bits : (d : List ℕ) (at n : ℕ) (a : Put) → putAnswer d at n ≡ a → PutFits at a
+pub put-fits-bits : (d : List ℕ) (at n : ℕ) (a : Put) → putAnswer d at (numberBytes n) ≡ a → PutFits at a
 put-fits-bits d at n (Next next) p = elim (decLe (at + length (numberBytes n)) (length d)) [
-  | yes h ↦ (let q = sym (put-fits d at n h) ∙ p in let e : at + length (numberBytes n) ≡ next = cc in
+  | yes h ↦ (let q = sym (put-fits d at (numberBytes n) h) ∙ p in let e : at + length (numberBytes n) ≡ next = cc in
       (omega (arith, e, length-some n), omega (arith, e, length-few n)))
-  | no h ↦ (let q = sym (put-refused d at n (omega (arith, h))) ∙ p in let z : _≡_ {A = ℕ} 0 1 = cc in absurd (omega arith))
+  | no h ↦ (let q = sym (put-refused d at (numberBytes n) (omega (arith, h))) ∙ p in let z : _≡_ {A = ℕ} 0 1 = cc in absurd (omega arith))
 ]
 put-fits-bits d at n NoRoom p = tt
 

@@ -5,7 +5,7 @@ use mathlib.Core.Bool.{false}
 use mathlib.Core.List.{List, [], _∷_}
 use native.Mathlib.Omega.{arith}
 use lib.ListN.{length, getD}
-use Rattle.number.specs.Number.{numberAt, putAnswer, putBytes}
+use Rattle.number.specs.Number.{numberBytes, numberAt, putAnswer, putBytes}
 use Rattle.number.specs.laws.Sheet.{read-80-00, read-80}
 use Rattle.rows.specs.Rows.{readOutcome, writeOutcome}
 use Rattle.record.specs.Examples.{sheetBytes}
@@ -24,8 +24,8 @@ use Rattle.exports.specs.Packed.{packedNumber, packedPut, packedAnswer, 
 pub one-read-number : (s : List ℕ) (at r r′ : ℕ) → r ≡ packedNumber at (numberAt s at) → r′ ≡ packedNumber at (numberAt s at) → r ≡ r′
 one-read-number s at r r′ p q = p ∙ sym q
 
-pub one-write-number : (d : List ℕ) (at n r r′ : ℕ) (e e′ : List ℕ) → (r ≡ packedPut at (putAnswer d at n)) × (e ≡ putBytes d at n)
-    → (r′ ≡ packedPut at (putAnswer d at n)) × (e′ ≡ putBytes d at n) → (r ≡ r′) × (e ≡ e′)
+pub one-write-number : (d : List ℕ) (at n r r′ : ℕ) (e e′ : List ℕ) → (r ≡ packedPut at (putAnswer d at (numberBytes n))) × (e ≡ putBytes d at (numberBytes n))
+    → (r′ ≡ packedPut at (putAnswer d at (numberBytes n))) × (e′ ≡ putBytes d at (numberBytes n)) → (r ≡ r′) × (e ≡ e′)
 one-write-number d at n r r′ e e′ p q = (p .0 ∙ sym (q .0), p .1 ∙ sym (q .1))
 
 pub one-read-record : (s d : List ℕ) (r r′ : ℕ) (e e′ : List ℕ) → (r ≡ packedAnswer (readOutcome s d .answer)) × (e ≡ readOutcome s d .lent)

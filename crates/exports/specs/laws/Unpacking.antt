@@ -6,7 +6,7 @@ use mathlib.Core.List.{List}
 use native.Mathlib.Omega.{arith}
 use lib.Dec.{eqb}
 use borrow.Author.Tests.{ne-eqb}
-use Rattle.number.specs.Number.{numberAt, putAnswer}
+use Rattle.number.specs.Number.{numberBytes, numberAt, putAnswer}
 use Rattle.number.specs.Answers.{refusalOf, numberIn, nextIn, putRefusalOf, putNextIn}
 use Rattle.number.specs.declared.Number.{Number}
 use Rattle.number.specs.declared.Number.the-variants.{Is, Refused}
@@ -140,11 +140,12 @@ pub read-number-back : (s : List ℕ) (at : ℕ) → Bytes s → unpackedNumber 
 read-number-back s at b = number-back at (numberAt s at) (number-fits s at b (numberAt s at) refl)
 
 -- adze_write_number
-pub write-number-parts : (d : List ℕ) (at n : ℕ) → Parts (packedPut at (putAnswer d at n)) (putRefusalOf (putAnswer d at n)) 0 (putNextIn (putAnswer d at n) - at)
-write-number-parts d at n = put-parts at (putAnswer d at n) (put-fits-bits d at n (putAnswer d at n) refl)
+pub write-number-parts : (d : List ℕ) (at n : ℕ)
+    → Parts (packedPut at (putAnswer d at (numberBytes n))) (putRefusalOf (putAnswer d at (numberBytes n))) 0 (putNextIn (putAnswer d at (numberBytes n)) - at)
+write-number-parts d at n = put-parts at (putAnswer d at (numberBytes n)) (put-fits-bits d at n (putAnswer d at (numberBytes n)) refl)
 
-pub write-number-back : (d : List ℕ) (at n : ℕ) → unpackedPut at (packedPut at (putAnswer d at n)) ≡ putAnswer d at n
-write-number-back d at n = put-back at (putAnswer d at n) (put-fits-bits d at n (putAnswer d at n) refl)
+pub write-number-back : (d : List ℕ) (at n : ℕ) → unpackedPut at (packedPut at (putAnswer d at (numberBytes n))) ≡ putAnswer d at (numberBytes n)
+write-number-back d at n = put-back at (putAnswer d at (numberBytes n)) (put-fits-bits d at n (putAnswer d at (numberBytes n)) refl)
 
 -- adze_read_record: of its count and the entry that a refusal names one is 0
 pub read-record-parts : (s d : List ℕ) → Bytes s → (a : Answer) → a ≡ readOutcome s d .answer → Parts (packedAnswer a) (refusalIn a) (countIn a + entryIn a) 0

@@ -6,14 +6,11 @@ use mathlib.Core.List.{List, [], _∷_, _++_, map}
 use native.Mathlib.Omega.{arith}
 use lib.Dec.{eqb}
 use lib.ListN.{length, length-append, take}
-use Rattle.number.specs.Value.{alternatingOf}
-use Rattle.number.specs.laws.NumberLaws.{length-few}
 use Rattle.text.specs.Text.{decimal, field, refusedWord, lineFeed, hexText}
 use Rattle.text.specs.laws.Length.{Few, both, digits-few, value-few, hex-few}
-use Rattle.record.specs.declared.Entry.{Entry}
-use Rattle.record.specs.declared.Entry.the-variants.{ReadAsked, WriteAsked, Told, Done}
 use Rattle.record.specs.Entry.{entryBytes}
 use Rattle.record.specs.Record.{allOf, bytesOf}
+use Rattle.record.specs.laws.EntryTrip.{entry-most}
 use Rattle.quorum.specs.Sets.{setBits, hasReplica}
 use Rattle.stamps.specs.declared.Pair.{Pair}
 use Rattle.method.specs.declared.Body.{Body}
@@ -142,21 +139,12 @@ replica-few r h k =
 
 -- ---- the record
 
-entry-few : (e : Entry) → Few (entryBytes e) 20
-unfolding entryBytes
-entry-few (ReadAsked client cell) =
-    record { few = simp length-append (omega (arith, length-few 0, length-few (client .0), length-few (cell .0))) }
-entry-few (WriteAsked client cell v) =
-    record { few = simp length-append (omega (arith, length-few 1, length-few (client .0), length-few (cell .0), length-few (alternatingOf v))) }
-entry-few (Told client v) =
-    record { few = simp length-append (omega (arith, length-few 2, length-few (client .0), length-few (alternatingOf v))) }
-entry-few (Done client) = record { few = simp length-append (omega (arith, length-few 3, length-few (client .0))) }
-
 entries-few : (n : ℕ) (lines : List Line) → Few (bytesOf (map (λ (l : Line). l .entry) (take n lines))) (n * 20)
 unfolding allOf
 entries-few zero lines = record { few = omega arith }
 entries-few (suc n) [] = record { few = omega arith }
-entries-few (suc n) (l ∷ lines) = let b = both (entry-few (l .entry)) (entries-few n lines) in record { few = omega (arith, b .few) }
+entries-few (suc n) (l ∷ lines) = let e : Few (entryBytes (l .entry)) 20 = record { few = entry-most (l .entry) } in
+    let b = both e (entries-few n lines) in record { few = omega (arith, b .few) }
 
 record-few : (r : Rack) → r .count ≤ 2048 → Few (recordLine r) 122887
 unfolding recordOf

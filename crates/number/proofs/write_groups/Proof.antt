@@ -5,8 +5,8 @@ use native.Mathlib.Omega.{arith}
 use borrow.Author.Needs.{needs}
 use lib.ListN.{length-set}
 use Rattle.number.specs.Number.{numberBytes}
-use Rattle.number.specs.laws.NumberLaws.{top, length-some}
-use Rattle.number.proofs.Laws.{WritesOn, step, finish, places}
+use Rattle.number.specs.laws.NumberLaws.{top, length-some, places}
+use Rattle.number.proofs.Laws.{WritesOn, step, finish}
 use Rattle.number.proofs.write_groups.Statement.{statement}
 use Rattle.number.proofs.write_groups.Tie as tie
 
@@ -55,7 +55,7 @@ returns : tie.Need-returns Inv-loop μ-loop
 returns c = let w = c .before .loop .inv in
     let d = finish (c .before .loop .buf) (c .before .loop .i) (c .before .loop .m) (w .f) (c .loop-test .left) in
     let a = c .before .before .args in
-    places (a .buf .now) (a .at) (a .n) _ _ (c .before .before .pre) (omega (arith, d .0, w .place)) (sym (d .1) ∙ w .same)
+    places (a .buf .now) (a .at) (numberBytes (a .n)) _ _ (c .before .before .pre) (record { place = omega (arith, d .0, w .place); list = sym (d .1) ∙ w .same })
 
 pub write-groups-spec : {M : Type 1} → statement M
 write-groups-spec =

@@ -2,20 +2,21 @@
 -- Assumes nothing.
 use native.Mathlib.Omega.{arith}
 use borrow.Author.Needs.{needs}
-use Rattle.number.proofs.Laws.{refuses}
+use Rattle.number.specs.Number.{numberBytes}
+use Rattle.number.specs.laws.NumberLaws.{refuses}
 use Rattle.number.proofs.write_number.Statement.{statement}
 use Rattle.number.proofs.write_number.Tie as tie
 
 returns : tie.Need-returns
 returns c = let a = c .before .before .args in
-    refuses (a .buf .now) (a .at) (a .n) (omega arith)
+    refuses (a .buf .now) (a .at) (numberBytes (a .n)) (omega arith)
 
 number-length-requires : tie.Need-number-length-requires
 number-length-requires c κs = search needs
 
 returns-2 : tie.Need-returns-2
 returns-2 c = let a = c .before .before .before .before .args in
-    refuses (a .buf .now) (a .at) (a .n) (omega arith)
+    refuses (a .buf .now) (a .at) (numberBytes (a .n)) (omega arith)
 
 write-groups-requires : tie.Need-write-groups-requires
 write-groups-requires c κs = search needs

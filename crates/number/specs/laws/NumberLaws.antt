@@ -1,7 +1,7 @@
 -- How long a number's bytes are, what a refusal to read can be, and what writing leaves.
 use Prim.Native.Nat.{ℕ, zero, suc, _+_, _*_, _/_, _%_, _^_, _<_, _≤_}
 use mathlib.Core.List.{List, [], _∷_}
-use mathlib.Core.Path.{_≡_, refl, ap}
+use mathlib.Core.Path.{_≡_, refl, ap, sym, _∙_}
 use mathlib.Core.Bool.{Bool, true, false, cond}
 use mathlib.Core.Logic.{_⊎_, inl, inr, ⊎-elim}
 use native.Mathlib.Omega.{arith}
@@ -10,8 +10,10 @@ use lib.Seq.{sets}
 use lib.Dec.{ltb}
 use borrow.Author.Tests.{lt-ltb, le-ltb, le-leb, lt-leb, ltb-true, ltb-false}
 use Rattle.number.specs.Below.{Bytes}
-use Rattle.number.specs.Number.{groupsOf, numberBytes, numberAt, numberOf, taken, endsFirst, lastIsZero, fifthAbove, valueOf, putAnswer, putBytes}
+use Rattle.number.specs.Number.{groupsOf, numberBytes, numberAt, numberOf, taken, endsFirst, lastIsZero, fifthAbove, valueOf, putAnswer, putBytes, Placed}
+use Rattle.number.specs.Wrote.{Wrote}
 use Rattle.number.specs.declared.Number.the-variants.{Is, Refused}
+use Rattle.number.specs.declared.Put.{Put}
 use Rattle.number.specs.declared.Put.the-variants.{Next, NoRoom}
 
 -- ---- the bytes of a number
@@ -107,21 +109,40 @@ refusal-bounds s at k p = ⊎-elim (λ e. (omega arith, omega arith)) (⊎-elim 
 
 -- ---- writing
 
-module _ (d : List ℕ) (at n : ℕ) where
-  -- where it fits, its bytes stand from place at on, and the place after them is answered
-  pub put-fits : at + length (numberBytes n) ≤ length d → putAnswer d at n ≡ Next (at + length (numberBytes n))
+module _ (d : List ℕ) (at : ℕ) (bs : List ℕ) where
+  -- where bytes fit, they stand from place at on, and the place after them is answered
+  pub put-fits : at + length bs ≤ length d → putAnswer d at bs ≡ Next (at + length bs)
   unfolding putAnswer
-  put-fits h = simp (le-leb (at + length (numberBytes n)) (length d) h)
+  put-fits h = simp (le-leb (at + length bs) (length d) h)
 
-  pub put-writes : at + length (numberBytes n) ≤ length d → putBytes d at n ≡ sets d at (numberBytes n)
+  pub put-writes : at + length bs ≤ length d → putBytes d at bs ≡ sets d at bs
   unfolding putBytes
-  put-writes h = simp (le-leb (at + length (numberBytes n)) (length d) h)
+  put-writes h = simp (le-leb (at + length bs) (length d) h)
 
-  -- where it doesn't, nothing is changed
-  pub put-refused : length d < at + length (numberBytes n) → putAnswer d at n ≡ NoRoom
+  -- where they don't, nothing is changed
+  pub put-refused : length d < at + length bs → putAnswer d at bs ≡ NoRoom
   unfolding putAnswer
-  put-refused h = simp (lt-leb (at + length (numberBytes n)) (length d) h)
+  put-refused h = simp (lt-leb (at + length bs) (length d) h)
 
-  pub put-keeps : length d < at + length (numberBytes n) → putBytes d at n ≡ d
+  pub put-keeps : length d < at + length bs → putBytes d at bs ≡ d
   unfolding putBytes
-  put-keeps h = simp (lt-leb (at + length (numberBytes n)) (length d) h)
+  put-keeps h = simp (lt-leb (at + length bs) (length d) h)
+
+  -- refusing what doesn't fit is what is asked, and so is writing what fits
+  pub refuses : length d < at + length bs → Placed d at bs NoRoom d
+  refuses h = record { answer = sym (put-refused h); bytes = sym (put-keeps h) }
+
+  pub places : (next : ℕ) (d′ : List ℕ) → at + length bs ≤ length d → Wrote d at bs next d′ → Placed d at bs (Next next) d′
+  places next d′ h w = record { answer = ap Next (w .place) ∙ sym (put-fits h); bytes = w .list ∙ sym (put-writes h) }
+
+  -- and what fits is written
+  pub placed-next : (d′ : List ℕ) (next : ℕ) (r : Put) → at + length bs ≤ length d → Placed d at bs r d′ → r ≡ Next next → Wrote d at bs next d′
+  placed-next d′ next r h w e =
+      let p = sym (put-fits h) ∙ sym (w .answer) ∙ e in
+      let q : at + length bs ≡ next = cc in
+      record { place = sym q; list = w .bytes ∙ put-writes h }
+
+  pub placed-fits : (d′ : List ℕ) (r : Put) → at + length bs ≤ length d → Placed d at bs r d′ → r ≡ NoRoom → ⊥
+  placed-fits d′ r h w e =
+      let p = sym (put-fits h) ∙ sym (w .answer) ∙ e in
+      let z : _≡_ {A = ℕ} 0 1 = cc in omega arith

@@ -43,18 +43,19 @@ not-one-of-128 r p q = omega (arith, ap length of-128)
 
 -- ---- write_number
 
-pub one-put : (d : List ℕ) (at n : ℕ) (r r′ : Put) (e e′ : List ℕ) → Placed d at n r e → Placed d at n r′ e′ → SamePut r r′ e e′
-one-put d at n r r′ e e′ p q =
+-- whatever bytes are written
+pub one-put : (d : List ℕ) (at : ℕ) (bs : List ℕ) (r r′ : Put) (e e′ : List ℕ) → Placed d at bs r e → Placed d at bs r′ e′ → SamePut r r′ e e′
+one-put d at bs r r′ e e′ p q =
     let s : r ≡ r′ = p .answer ∙ sym (q .answer) in
     record { refusal = ap putRefusalOf s; next = ap putNextIn s; same = s; bytes = p .bytes ∙ sym (q .bytes) }
 
 -- nothing fits in no bytes, and a byte that is written is no longer what it was
-pub not-in-none : (e : List ℕ) → Placed [] 0 5 (Next 1) e → ⊥
+pub not-in-none : (e : List ℕ) → Placed [] 0 (numberBytes 5) (Next 1) e → ⊥
 unfolding putAnswer groupsOf
 not-in-none e p = let a : Next 1 ≡ NoRoom = p .answer in
     let z : _≡_ {A = ℕ} 0 1 = cc in omega arith
 
-pub not-left-alone : (r : Put) → Placed (7 ∷ []) 0 5 r (7 ∷ []) → ⊥
+pub not-left-alone : (r : Put) → Placed (7 ∷ []) 0 (numberBytes 5) r (7 ∷ []) → ⊥
 unfolding putBytes groupsOf
 not-left-alone r p = let b : _≡_ {A = List ℕ} (7 ∷ []) (5 ∷ []) = p .bytes in
     let z : _≡_ {A = ℕ} 7 5 = cc in omega arith
@@ -101,10 +102,10 @@ unfolding refusalOf numberIn nextIn
 says-22 r p = let e : r ≡ Refused 22 = p ∙ read-80-00 in (ap refusalOf e, ap numberIn e, ap nextIn e)
 
 -- 261 written at place 1 ends at place 3; where one byte is left it is refused 20
-pub says-written : (r : Put) (e : List ℕ) → Placed (7 ∷ 7 ∷ 7 ∷ []) 1 261 r e → (putRefusalOf r ≡ 0) × (putNextIn r ≡ 3)
+pub says-written : (r : Put) (e : List ℕ) → Placed (7 ∷ 7 ∷ 7 ∷ []) 1 (numberBytes 261) r e → (putRefusalOf r ≡ 0) × (putNextIn r ≡ 3)
 unfolding putAnswer groupsOf putRefusalOf putNextIn
 says-written r e p = let a : r ≡ Next 3 = p .answer in (ap putRefusalOf a, ap putNextIn a)
 
-pub says-20 : (r : Put) (e : List ℕ) → Placed (7 ∷ 7 ∷ 7 ∷ []) 2 261 r e → (putRefusalOf r ≡ 20) × (putNextIn r ≡ 0)
+pub says-20 : (r : Put) (e : List ℕ) → Placed (7 ∷ 7 ∷ 7 ∷ []) 2 (numberBytes 261) r e → (putRefusalOf r ≡ 20) × (putNextIn r ≡ 0)
 unfolding putAnswer groupsOf putRefusalOf putNextIn
 says-20 r e p = let a : r ≡ NoRoom = p .answer in (ap putRefusalOf a, ap putNextIn a)

@@ -136,5 +136,5 @@ drop-sets d at xs h =
     ∙ drop-at (take at d) (xs ++ drop (at + length xs) d) at (length-take-le at d (omega arith))
 
 -- a number that was put is read where it was put
-pub put-reads : (d : List ℕ) (at n : ℕ) → n < 2 ^ 32 → at + length (numberBytes n) ≤ length d → numberAt (putBytes d at n) at ≡ Is n (at + length (numberBytes n))
-put-reads d at n h g = ap (λ (l : List ℕ). numberAt l at) (put-writes d at n g) ∙ reads-written (sets d at (numberBytes n)) at n (drop (at + length (numberBytes n)) d) h (drop-sets d at (numberBytes n) g)
+pub put-reads : (d : List ℕ) (at n : ℕ) → n < 2 ^ 32 → at + length (numberBytes n) ≤ length d → numberAt (putBytes d at (numberBytes n)) at ≡ Is n (at + length (numberBytes n))
+put-reads d at n h g = ap (λ (l : List ℕ). numberAt l at) (put-writes d at (numberBytes n) g) ∙ reads-written (sets d at (numberBytes n)) at n (drop (at + length (numberBytes n)) d) h (drop-sets d at (numberBytes n) g)

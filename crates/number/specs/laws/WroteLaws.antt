@@ -4,14 +4,9 @@ use mathlib.Core.List.{List, [], _∷_, _++_}
 use mathlib.Core.Path.{_≡_, ap, ap₂, _∙_}
 use native.Mathlib.Omega.{arith}
 use native.Mathlib.Nat.{add-zero}
-use lib.ListN.{length, length-append, drop}
-use lib.Seq.{sets, sets-eq, length-sets}
+use lib.ListN.{length, length-append, take, drop}
+use lib.Seq.{sets, sets-eq, length-sets, take-append-seam}
 use Rattle.number.specs.Wrote.{Wrote}
-
--- how long a list of numbers is, and a bound of it
-pub record Long (numbers : List ℕ) (most : ℕ) (r : ℕ) : Type 0 where
-  pub is : r ≡ length numbers
-  pub few : r ≤ most
 
 pub sets-append : (l : List ℕ) (i : ℕ) (xs ys : List ℕ) → sets (sets l i xs) (i + length xs) ys ≡ sets l i (xs ++ ys)
 sets-append l i [] ys = simp add-zero
@@ -34,10 +29,9 @@ sets-front xs l h =
     let e : 0 + length xs ≡ length xs = omega arith in
     sets-eq xs l 0 (omega arith) ∙ ap (λ (k : ℕ). xs ++ drop k l) e
 
--- two lists one after the other
-pub length-joined : {a b : ℕ} (xs ys : List ℕ) → a ≡ length xs → b ≡ length ys → a + b ≡ length (xs ++ ys)
-length-joined xs ys p q = simp length-append (omega arith)
-
--- the same with a greater bound
-pub longer : {xs : List ℕ} {most more r : ℕ} → Long xs most r → most ≤ more → Long xs more r
-longer w h = record { is = w .is; few = omega (arith, w .few) }
+-- what was written at the front is what stands there
+pub wrote-front : {l xs : List ℕ} {r : ℕ} {l′ : List ℕ} → length xs ≤ length l → Wrote l 0 xs r l′ → (r ≤ length l′) × (take r l′ ≡ xs)
+wrote-front {l} {xs} {r} {l′} h w =
+    let e : r ≡ length xs = omega (arith, w .place) in
+    let front : take r l′ ≡ xs = ap₂ take e (w .list ∙ sets-front xs l h) ∙ take-append-seam xs (drop (length xs) l) in
+    (omega (arith, wrote-length w), front)

@@ -185,6 +185,14 @@ entry-some (WriteAsked client cell v) = simp length-append (omega (arith, length
 entry-some (Told client v) = simp length-append (omega (arith, length-some 2))
 entry-some (Done client) = simp length-append (omega (arith, length-some 3))
 
+-- and 20 at most, whatever its fields: it is four numbers at most
+pub entry-most : (e : Entry) → length (entryBytes e) ≤ 20
+unfolding entryBytes
+entry-most (ReadAsked client cell) = simp length-append (omega (arith, length-few 0, length-few (client .0), length-few (cell .0)))
+entry-most (WriteAsked client cell v) = simp length-append (omega (arith, length-few 1, length-few (client .0), length-few (cell .0), length-few (alternatingOf v)))
+entry-most (Told client v) = simp length-append (omega (arith, length-few 2, length-few (client .0), length-few (alternatingOf v)))
+entry-most (Done client) = simp length-append (omega (arith, length-few 3, length-few (client .0)))
+
 -- a number below 128 takes one
 one-byte : (n : ℕ) → n < 128 → length (numberBytes n) ≡ 1
 one-byte n h = ap length (bytes-small n h)

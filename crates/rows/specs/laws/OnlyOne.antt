@@ -6,8 +6,10 @@ use mathlib.Core.Bool.{Bool, true, false}
 use native.Mathlib.Omega.{arith}
 use lib.IntN.{ℤ, pos}
 use lib.ListN.{drop, getD}
-use Rattle.number.specs.Number.{groupsOf}
+use Rattle.number.specs.Number.{groupsOf, putAnswer, putBytes, Placed}
 use Rattle.number.specs.Value.{alternatingOf}
+use Rattle.number.specs.declared.Put.{Put}
+use Rattle.number.specs.declared.Put.the-variants.{Next, NoRoom}
 use Rattle.record.specs.declared.Cell.{Cell}
 use Rattle.record.specs.declared.Client.{Client}
 use Rattle.record.specs.declared.Entry.{Entry}
@@ -116,3 +118,22 @@ pub write-not-left : (r : Answer) → Leaves (writeOutcome (0 ∷ 0 ∷ 2 ∷ 77
 write-not-left r p =
     let a : _≡_ {A = List ℕ} (9 ∷ 9 ∷ 9 ∷ []) (0 ∷ 0 ∷ 2 ∷ []) = p .leaves ∙ ap (λ (o : Outcome). o .lent) one-written in
     let z : _≡_ {A = ℕ} 9 0 = cc in omega arith
+
+-- a told that has no room isn't begun, one that just fits isn't refused, and its value of 5 isn't written as 5
+pub entry-not-begun : (r : Put) → Placed (9 ∷ 9 ∷ []) 0 (entryBytes (Told (record { 0 = 1 }) (pos 5))) r (2 ∷ 1 ∷ []) → ⊥
+unfolding putBytes entryBytes groupsOf alternatingOf
+entry-not-begun r p =
+    let a : _≡_ {A = List ℕ} (2 ∷ 1 ∷ []) (9 ∷ 9 ∷ []) = p .bytes in
+    let z : _≡_ {A = ℕ} 2 9 = cc in omega arith
+
+pub entry-not-20 : (e : List ℕ) → Placed (9 ∷ 9 ∷ 9 ∷ []) 0 (entryBytes (Told (record { 0 = 1 }) (pos 5))) NoRoom e → ⊥
+unfolding putAnswer entryBytes groupsOf alternatingOf
+entry-not-20 e p =
+    let a : NoRoom ≡ Next 3 = p .answer in
+    let z : _≡_ {A = ℕ} 0 1 = cc in omega arith
+
+pub entry-not-plain : (r : Put) → Placed (9 ∷ 9 ∷ 9 ∷ []) 0 (entryBytes (Told (record { 0 = 1 }) (pos 5))) r (2 ∷ 1 ∷ 5 ∷ []) → ⊥
+unfolding putBytes entryBytes groupsOf alternatingOf
+entry-not-plain r p =
+    let a : _≡_ {A = List ℕ} (2 ∷ 1 ∷ 5 ∷ []) (2 ∷ 1 ∷ 10 ∷ []) = p .bytes in
+    let z : _≡_ {A = ℕ} 5 10 = cc in omega arith

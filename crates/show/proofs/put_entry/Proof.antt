@@ -1,111 +1,54 @@
--- `show::put_entry` meets its contract. Assumes nothing.
+-- `show::put_entry` meets its contract: no entry has more than twenty bytes. Assumes nothing.
+use mathlib.Core.Path.{refl, sym, ap}
+use lib.Seq.{length-take-le}
+use Rattle.text.specs.Text.{hexText}
+use Rattle.text.specs.laws.Printing.{same-text}
+use Rattle.show.proofs.Laws.{entry-front, entry-room}
 use borrow.Author.Needs.{needs}
-use Rattle.record.specs.Entry.{entryBytes}
-use Rattle.number.specs.laws.ValueLaws.{alternating-of-bits}
 use Rattle.show.proofs.put_entry.Statement.{statement}
 use Rattle.show.proofs.put_entry.Tie as tie
 
-enum-known-e : tie.Need-enum-known-e
-enum-known-e c = search needs
+slice-aggregate-write-entry : tie.Need-slice-aggregate-write-entry
+slice-aggregate-write-entry c = search needs
 
-cast-put-three : tie.Need-cast-put-three
-cast-put-three c = search needs
+write-entry-requires : tie.Need-write-entry-requires
+write-entry-requires c κs = search needs
 
-cast-put-three-2 : tie.Need-cast-put-three-2
-cast-put-three-2 c = search needs
+enum-known-next : tie.Need-enum-known-next
+enum-known-next c = search needs
 
-put-three-requires : tie.Need-put-three-requires
-put-three-requires c κs = search needs
+array-share-prefix-bytes : tie.Need-array-share-prefix-bytes
+array-share-prefix-bytes c = entry-front _ _ _ _ refl (c .before .before .before .before .before .write-entry .ensures) _ (c .before .before .next .given .1) .0
 
-enum-known-e-2 : tie.Need-enum-known-e-2
-enum-known-e-2 c = search needs
+slice-aggregate-put-hex : tie.Need-slice-aggregate-put-hex
+slice-aggregate-put-hex c = sym (length-take-le _ _ (entry-front _ _ _ _ refl (c .before .before .before .before .before .before .write-entry .ensures) _ (c .before .before .before .next .given .1) .0))
 
-cast-put-four : tie.Need-cast-put-four
-cast-put-four c = search needs
+put-hex-requires : tie.Need-put-hex-requires
+put-hex-requires c κs = search needs
 
-cast-put-four-2 : tie.Need-cast-put-four-2
-cast-put-four-2 c = search needs
-
-alternating-requires : tie.Need-alternating-requires
-alternating-requires c κs = search needs
-
-put-four-requires : tie.Need-put-four-requires
-put-four-requires c κs = search needs
-
-enum-known-e-3 : tie.Need-enum-known-e-3
-enum-known-e-3 c = search needs
-
-cast-put-three-3 : tie.Need-cast-put-three-3
-cast-put-three-3 c = search needs
-
-alternating-requires-2 : tie.Need-alternating-requires-2
-alternating-requires-2 c κs = search needs
-
-put-three-requires-2 : tie.Need-put-three-requires-2
-put-three-requires-2 c κs = search needs
-
-enum-known-e-4 : tie.Need-enum-known-e-4
-enum-known-e-4 c = search needs
-
-cast-put-two : tie.Need-cast-put-two
-cast-put-two c = search needs
-
-put-two-requires : tie.Need-put-two-requires
-put-two-requires c κs = search needs
+enum-told : tie.Need-enum-told
+enum-told c = search needs
 
 same-length : tie.Need-same-length
 same-length c = search needs
 
 returns : tie.Need-returns
-unfolding entryBytes
-returns c = rw (c .before .before .before .before .before .before .before .e .given .1) (c .before .before .put-three .ensures)
-
-same-length-2 : tie.Need-same-length-2
-same-length-2 c = search needs
+returns c = same-text (ap hexText (entry-front _ _ _ _ refl (c .before .before .before .before .before .before .before .before .before .write-entry .ensures) _ (c .before .before .before .before .before .before .next .given .1) .1)) (c .before .before .put-hex .ensures)
 
 returns-2 : tie.Need-returns-2
-unfolding entryBytes
-returns-2 c = rw (c .before .before .before .before .before .before .before .before .e2 .given .1, alternating-of-bits (c .before .before .before .before .before .before .before .before .e2 .given .0 .1 .1 .0) (c .before .before .before .alternating .result) (search needs) (c .before .before .before .alternating .ensures)) (c .before .before .put-four .ensures)
-
-same-length-3 : tie.Need-same-length-3
-same-length-3 c = search needs
-
-returns-3 : tie.Need-returns-3
-unfolding entryBytes
-returns-3 c = rw (c .before .before .before .before .before .before .before .e3 .given .1, alternating-of-bits (c .before .before .before .before .before .before .before .e3 .given .0 .1 .0) (c .before .before .before .alternating2 .result) (search needs) (c .before .before .before .alternating2 .ensures)) (c .before .before .put-three2 .ensures)
-
-same-length-4 : tie.Need-same-length-4
-same-length-4 c = search needs
-
-returns-4 : tie.Need-returns-4
-unfolding entryBytes
-returns-4 c = rw (c .before .before .before .before .before .before .e4 .given .1) (c .before .before .put-two .ensures)
+returns-2 c = absurd (entry-room _ _ _ _ refl (c .before .before .before .write-entry .ensures) (c .enum-told .given .1))
 
 pub put-entry-spec : {M : Type 1} → statement M
 put-entry-spec =
     tie.close
     (tie.spec
-    enum-known-e
-    cast-put-three
-    cast-put-three-2
-    put-three-requires
-    enum-known-e-2
-    cast-put-four
-    cast-put-four-2
-    alternating-requires
-    put-four-requires
-    enum-known-e-3
-    cast-put-three-3
-    alternating-requires-2
-    put-three-requires-2
-    enum-known-e-4
-    cast-put-two
-    put-two-requires
+    slice-aggregate-write-entry
+    write-entry-requires
+    enum-known-next
+    array-share-prefix-bytes
+    slice-aggregate-put-hex
+    put-hex-requires
+    enum-told
     same-length
     returns
-    same-length-2
-    returns-2
-    same-length-3
-    returns-3
-    same-length-4
-    returns-4)
+    returns-2)

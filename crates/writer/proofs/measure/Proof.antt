@@ -11,6 +11,7 @@ use Rattle.record.specs.Record.{faultAfter, standingAfter}
 use Rattle.record.specs.declared.Entry.{Entry}
 use Rattle.record.specs.declared.Standing.{Standing}
 use Rattle.record.specs.declared.Found.the-variants.{At}
+use Rattle.record.specs.laws.EntryTrip.{entry-most}
 use Rattle.record.specs.laws.Steps.{Counting, counts-end, counts-full, counts-unread, counts-misplaced, counts-on}
 use Rattle.rows.specs.laws.RowLaws.{row-next, more-rows, no-more-rows, measure-tally}
 use Rattle.rows.specs.Row.{rowAt}
@@ -73,7 +74,7 @@ entry-length-requires : tie.Need-entry-length-requires Inv-loop μ-loop
 entry-length-requires c κs = search needs
 
 add-sum : tie.Need-add-sum Inv-loop μ-loop
-add-sum c = omega (arith, c .entry-length .ensures .few, c .before .before .before .before .before .before .before .before .before .before .loop .inv .1, c .before .before .before .before .before .before .before .before .before .before .loop .inv .0 .limit)
+add-sum c = omega (arith, c .entry-length .ensures, entry-most (c .before .before .before .before .before .e .given .0 .0), c .before .before .before .before .before .before .before .before .before .before .loop .inv .1, c .before .before .before .before .before .before .before .before .before .before .loop .inv .0 .limit)
 
 add-n : tie.Need-add-n Inv-loop μ-loop
 add-n c = omega (arith, c .before .before .before .before .before .before .before .before .before .before .loop .inv .0 .limit)
@@ -82,7 +83,7 @@ loop-less : tie.Need-loop-less Inv-loop μ-loop
 loop-less c = omega (arith, c .before .before .before .before .before .before .before .before .before .before .loop .inv .0 .limit, c .before .before .before .before .before .before .before .before .if1 .left)
 
 loop-again : tie.Need-loop-again Inv-loop μ-loop
-loop-again c = (measures-on _ _ _ _ _ _ _ _ (c .before .before .before .before .before .before .before .before .before .before .loop .inv .0) (c .before .before .before .before .before .before .before .before .before .loop-test .taken) (c .before .before .before .before .before .before .before .before .if1 .left) (sym (c .before .before .before .before .before .before .before .row-at .ensures) ∙ c .before .before .before .before .before .e .given .1) (sym (c .before .before .before .fault .ensures) ∙ c .before .before .if2 .left) (c .before .after .ensures) (c .entry-length .ensures .is), omega (arith, c .entry-length .ensures .few, c .before .before .before .before .before .before .before .before .before .before .loop .inv .1))
+loop-again c = (measures-on _ _ _ _ _ _ _ _ (c .before .before .before .before .before .before .before .before .before .before .loop .inv .0) (c .before .before .before .before .before .before .before .before .before .loop-test .taken) (c .before .before .before .before .before .before .before .before .if1 .left) (sym (c .before .before .before .before .before .before .before .row-at .ensures) ∙ c .before .before .before .before .before .e .given .1) (sym (c .before .before .before .fault .ensures) ∙ c .before .before .if2 .left) (c .before .after .ensures) (c .entry-length .ensures), omega (arith, c .entry-length .ensures, entry-most (c .before .before .before .before .before .e .given .0 .0), c .before .before .before .before .before .before .before .before .before .before .loop .inv .1))
 
 returns-4 : tie.Need-returns-4 Inv-loop μ-loop
 returns-4 c = counts-end _ _ _ _ _ _ _ _ (c .before .loop .inv .0) (no-more-rows (c .before .before .before .before .args .rows .now) _ (c .loop-test .left)) ∙ sym (measure-tally _)

@@ -1,122 +1,92 @@
--- `writer::put_entry` meets its contract. Assumes nothing.
-use Rattle.writer.proofs.Laws.{write-room, told-room}
-use Rattle.number.specs.laws.ValueLaws.{alternating-of-bits}
-use Rattle.record.specs.Entry.{entryBytes}
+-- `writer::put_entry` meets its contract: what is written goes by the kind. Assumes nothing.
+use native.Mathlib.Omega.{arith}
+use Rattle.number.specs.laws.WroteLaws.{join, wrote-length}
+use Rattle.writer.proofs.Laws.{by-kind, told-long, write-long, wrote-as}
 use borrow.Author.Needs.{needs}
 use Rattle.writer.proofs.put_entry.Statement.{statement}
 use Rattle.writer.proofs.put_entry.Tie as tie
 use Rattle.writer.proofs.put_entry.Reads as reads
 use Rattle.writer.proofs.put_entry.Lts as lts
-use Rattle.number.proofs.alternating.Reads as alternating-reads
-use Rattle.writer.proofs.put_four.Reads as put-four-reads
-use Rattle.writer.proofs.put_three.Reads as put-three-reads
-use Rattle.writer.proofs.put_two.Reads as put-two-reads
+use Rattle.rows.proofs.row_of.Reads as row-of-reads
+use Rattle.writer.proofs.put_number.Reads as put-number-reads
 
-enum-known-e : tie.Need-enum-known-e
-enum-known-e c = search needs
+row-of-requires : tie.Need-row-of-requires
+row-of-requires c κs = search needs
 
-cast-put-three : tie.Need-cast-put-three
-cast-put-three c = search needs
+array-read-kind : tie.Need-array-read-kind
+array-read-kind c = search needs
 
-cast-put-three-2 : tie.Need-cast-put-three-2
-cast-put-three-2 c = search needs
+put-number-requires : tie.Need-put-number-requires
+put-number-requires c κs = omega (arith, (by-kind _ _ (c .before .row-of .ensures)) .both)
 
-put-three-requires : tie.Need-put-three-requires
-unfolding entryBytes
-put-three-requires c κs = simp (c .before .before .before .before .e .given .1) at (c .before .before .before .before .before .before .before .pre)
+array-read-put-number : tie.Need-array-read-put-number
+array-read-put-number c = search needs
 
-enum-known-e-2 : tie.Need-enum-known-e-2
-enum-known-e-2 c = search needs
-
-cast-put-four : tie.Need-cast-put-four
-cast-put-four c = search needs
-
-cast-put-four-2 : tie.Need-cast-put-four-2
-cast-put-four-2 c = search needs
-
-alternating-requires : tie.Need-alternating-requires
-alternating-requires c κs = search needs
-
-put-four-requires : tie.Need-put-four-requires
-unfolding entryBytes
-put-four-requires c κs = write-room _ _ _ _ _ _ _ (c .before .before .before .before .before .e2 .given .1) (alternating-of-bits (c .before .before .before .before .before .e2 .given .0 .1 .1 .0) (c .alternating .result) (search needs) (c .alternating .ensures)) (c .before .before .before .before .before .before .before .before .pre)
-
-enum-known-e-3 : tie.Need-enum-known-e-3
-enum-known-e-3 c = search needs
-
-cast-put-three-3 : tie.Need-cast-put-three-3
-cast-put-three-3 c = search needs
-
-alternating-requires-2 : tie.Need-alternating-requires-2
-alternating-requires-2 c κs = search needs
-
-put-three-requires-2 : tie.Need-put-three-requires-2
-unfolding entryBytes
-put-three-requires-2 c κs = told-room _ _ _ _ _ _ (c .before .before .before .before .e3 .given .1) (alternating-of-bits (c .before .before .before .before .e3 .given .0 .1 .0) (c .alternating2 .result) (search needs) (c .alternating2 .ensures)) (c .before .before .before .before .before .before .before .pre)
-
-enum-known-e-4 : tie.Need-enum-known-e-4
-enum-known-e-4 c = search needs
-
-cast-put-two : tie.Need-cast-put-two
-cast-put-two c = search needs
-
-put-two-requires : tie.Need-put-two-requires
-unfolding entryBytes
-put-two-requires c κs = simp (c .before .before .before .e4 .given .1) at (c .before .before .before .before .before .before .pre)
+put-number-requires-2 : tie.Need-put-number-requires-2
+put-number-requires-2 c κs = omega (arith, (by-kind _ _ (c .before .before .before .before .before .row-of .ensures)) .both, (c .before .before .before .put-number .ensures) .place, wrote-length (c .before .before .before .put-number .ensures))
 
 same-length : tie.Need-same-length
 same-length c = search needs
 
 returns : tie.Need-returns
-unfolding entryBytes
-returns c = simp (c .before .before .before .before .before .before .before .e .given .1) (c .before .before .put-three .ensures)
+returns c = wrote-as ((by-kind _ _ (c .before .before .before .before .before .before .before .before .before .row-of .ensures)) .done (c .if1 .taken)) (join (c .before .before .before .before .before .before .before .put-number .ensures) (c .before .before .before .put-number2 .ensures))
+
+array-read-put-number-2 : tie.Need-array-read-put-number-2
+array-read-put-number-2 c = search needs
+
+put-number-requires-3 : tie.Need-put-number-requires-3
+put-number-requires-3 c κs = omega (arith, told-long (by-kind _ _ (c .before .before .before .before .before .before .before .before .before .before .before .row-of .ensures)) (c .before .if2 .taken), (c .before .before .before .before .before .before .before .before .before .put-number .ensures) .place, wrote-length (c .before .before .before .before .before .before .before .before .before .put-number .ensures), (c .before .before .before .before .before .put-number2 .ensures) .place, wrote-length (c .before .before .before .before .before .put-number2 .ensures))
 
 same-length-2 : tie.Need-same-length-2
 same-length-2 c = search needs
 
 returns-2 : tie.Need-returns-2
-unfolding entryBytes
-returns-2 c = simp (c .before .before .before .before .before .before .before .before .e2 .given .1, alternating-of-bits (c .before .before .before .before .before .before .before .before .e2 .given .0 .1 .1 .0) (c .before .before .before .alternating .result) (search needs) (c .before .before .before .alternating .ensures)) (c .before .before .put-four .ensures)
+returns-2 c = wrote-as ((by-kind _ _ (c .before .before .before .before .before .before .before .before .before .before .before .before .before .before .row-of .ensures)) .told (c .before .before .before .before .if2 .taken)) (join (join (c .before .before .before .before .before .before .before .before .before .before .before .before .put-number .ensures) (c .before .before .before .before .before .before .before .before .put-number2 .ensures)) (c .before .before .put-number3 .ensures))
+
+array-read-put-number-3 : tie.Need-array-read-put-number-3
+array-read-put-number-3 c = search needs
+
+put-number-requires-4 : tie.Need-put-number-requires-4
+put-number-requires-4 c κs = omega (arith, (by-kind _ _ (c .before .before .before .before .before .before .before .before .before .before .before .row-of .ensures)) .third (c .before .before .if1 .left) (c .before .if2 .left), (c .before .before .before .before .before .before .before .before .before .put-number .ensures) .place, wrote-length (c .before .before .before .before .before .before .before .before .before .put-number .ensures), (c .before .before .before .before .before .put-number2 .ensures) .place, wrote-length (c .before .before .before .before .before .put-number2 .ensures))
 
 same-length-3 : tie.Need-same-length-3
 same-length-3 c = search needs
 
 returns-3 : tie.Need-returns-3
-unfolding entryBytes
-returns-3 c = simp (c .before .before .before .before .before .before .before .e3 .given .1, alternating-of-bits (c .before .before .before .before .before .before .before .e3 .given .0 .1 .0) (c .before .before .before .alternating2 .result) (search needs) (c .before .before .before .alternating2 .ensures)) (c .before .before .put-three2 .ensures)
+returns-3 c = wrote-as ((by-kind _ _ (c .before .before .before .before .before .before .before .before .before .before .before .before .before .before .before .row-of .ensures)) .read (c .if3 .taken)) (join (join (c .before .before .before .before .before .before .before .before .before .before .before .before .before .put-number .ensures) (c .before .before .before .before .before .before .before .before .before .put-number2 .ensures)) (c .before .before .before .put-number4 .ensures))
+
+array-read-put-number-4 : tie.Need-array-read-put-number-4
+array-read-put-number-4 c = search needs
+
+put-number-requires-5 : tie.Need-put-number-requires-5
+put-number-requires-5 c κs = omega (arith, write-long (by-kind _ _ (c .before .before .before .before .before .before .before .before .before .before .before .before .before .before .before .before .row-of .ensures)) (c .before .before .before .before .before .before .before .if1 .left) (c .before .before .before .before .before .before .if2 .left) (c .before .if3 .left), (c .before .before .before .before .before .before .before .before .before .before .before .before .before .before .put-number .ensures) .place, wrote-length (c .before .before .before .before .before .before .before .before .before .before .before .before .before .before .put-number .ensures), (c .before .before .before .before .before .before .before .before .before .before .put-number2 .ensures) .place, wrote-length (c .before .before .before .before .before .before .before .before .before .before .put-number2 .ensures), (c .before .before .before .before .put-number4 .ensures) .place, wrote-length (c .before .before .before .before .put-number4 .ensures))
 
 same-length-4 : tie.Need-same-length-4
 same-length-4 c = search needs
 
 returns-4 : tie.Need-returns-4
-unfolding entryBytes
-returns-4 c = simp (c .before .before .before .before .before .before .e4 .given .1) (c .before .before .put-two .ensures)
+returns-4 c = wrote-as ((by-kind _ _ (c .before .before .before .before .before .before .before .before .before .before .before .before .before .before .before .before .before .before .before .row-of .ensures)) .write (c .before .before .before .before .before .before .before .before .before .before .if1 .left) (c .before .before .before .before .before .before .before .before .before .if2 .left) (c .before .before .before .before .if3 .left)) (join (join (join (c .before .before .before .before .before .before .before .before .before .before .before .before .before .before .before .before .before .put-number .ensures) (c .before .before .before .before .before .before .before .before .before .before .before .before .before .put-number2 .ensures)) (c .before .before .before .before .before .before .before .put-number4 .ensures)) (c .before .before .put-number5 .ensures))
 
 pub put-entry-spec : {M : Type 1} → statement M
 put-entry-spec =
     tie.close
     (tie.spec
-    enum-known-e
-    cast-put-three
-    cast-put-three-2
-    put-three-requires
-    enum-known-e-2
-    cast-put-four
-    cast-put-four-2
-    alternating-requires
-    put-four-requires
-    enum-known-e-3
-    cast-put-three-3
-    alternating-requires-2
-    put-three-requires-2
-    enum-known-e-4
-    cast-put-two
-    put-two-requires
+    row-of-requires
+    array-read-kind
+    put-number-requires
+    array-read-put-number
+    put-number-requires-2
     same-length
     returns
+    array-read-put-number-2
+    put-number-requires-3
     same-length-2
     returns-2
+    array-read-put-number-3
+    put-number-requires-4
     same-length-3
     returns-3
+    array-read-put-number-4
+    put-number-requires-5
     same-length-4
     returns-4)

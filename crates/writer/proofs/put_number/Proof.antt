@@ -1,5 +1,5 @@
 -- `writer::put_number` meets its contract. Assumes nothing.
-use Rattle.writer.proofs.Laws.{placed-next, placed-fits}
+use Rattle.number.specs.laws.NumberLaws.{placed-next, placed-fits}
 use borrow.Author.Needs.{needs}
 use Rattle.writer.proofs.put_number.Statement.{statement}
 use Rattle.writer.proofs.put_number.Tie as tie

@@ -1,12 +1,12 @@
--- `text::put_hex_bytes` meets its contract. The loop's invariant: the first i bytes are written. Assumes nothing.
+-- `text::put_hex` meets its contract. The loop's invariant: the first i bytes are written. Assumes nothing.
 use Prim.Native.Nat.{_-_}
 use borrow.Author.Needs.{needs}
 use lib.ListN.{length, take}
 use Rattle.text.specs.Text.{hexText, Printed}
 use Rattle.text.specs.laws.Printing.{printed-length}
 use Rattle.text.proofs.Laws.{no-hex, next-hex, all-hex}
-use Rattle.text.proofs.put_hex_bytes.Statement.{statement}
-use Rattle.text.proofs.put_hex_bytes.Tie as tie
+use Rattle.text.proofs.put_hex.Statement.{statement}
+use Rattle.text.proofs.put_hex.Tie as tie
 
 abbrev Inv-loop : tie.InvT-loop
 Inv-loop out₀ at bytes next₀ i₀ out next i = Printed out₀ at (hexText (take i bytes)) next out
@@ -38,8 +38,8 @@ same-length c = printed-length (c .before .loop .inv)
 returns : tie.Need-returns Inv-loop μ-loop
 returns c = all-hex _ _ (c .loop-test .left) (c .before .loop .inv)
 
-pub put-hex-bytes-spec : {M : Type 1} → statement M
-put-hex-bytes-spec =
+pub put-hex-spec : {M : Type 1} → statement M
+put-hex-spec =
     tie.close
     (tie.spec
     Inv-loop
