@@ -63,7 +63,8 @@ fn packed(a: Answer) -> u64
 // Reads a record into lent rows.
 #[no_mangle]
 pub extern "C" fn adze_read_record(bytes: &[u8], rows: &mut [u32]) -> u64
-    ensures { λ r. ⌜ (r ≡ packedAnswer (readOutcome (now (bytes .entry)) (now (rows .entry)) .answer)) × (now (rows .exit) ≡ readOutcome (now (bytes .entry)) (now (rows .entry)) .lent) ⌝ }
+    ensures { λ r. ⌜ (r ≡ packedAnswer (readOutcome (now (bytes .entry)) (now (rows .entry)) .answer)) ×
+        (now (rows .exit) ≡ readOutcome (now (bytes .entry)) (now (rows .entry)) .lent) ⌝ }
 {
     let a = rows::read_record(bytes, rows);
     packed(a)
@@ -72,7 +73,8 @@ pub extern "C" fn adze_read_record(bytes: &[u8], rows: &mut [u32]) -> u64
 // Writes the record of lent rows into lent bytes.
 #[no_mangle]
 pub extern "C" fn adze_write_record(rows: &[u32], bytes: &mut [u8]) -> u64
-    ensures { λ r. ⌜ (r ≡ packedAnswer (writeOutcome (now (rows .entry)) (now (bytes .entry)) .answer)) × (now (bytes .exit) ≡ writeOutcome (now (rows .entry)) (now (bytes .entry)) .lent) ⌝ }
+    ensures { λ r. ⌜ (r ≡ packedAnswer (writeOutcome (now (rows .entry)) (now (bytes .entry)) .answer)) ×
+        (now (bytes .exit) ≡ writeOutcome (now (rows .entry)) (now (bytes .entry)) .lent) ⌝ }
 {
     let a = writer::write_record(rows, bytes);
     packed(a)
@@ -110,7 +112,8 @@ fn packed_run(a: layout::WordsAnswer) -> u64
 // Makes a fresh rack in lent words.
 #[no_mangle]
 pub extern "C" fn adze_rack_made(rack: &mut [u32], replicas: u32, clients: u32, cells: u32) -> u64
-    ensures { λ r. ⌜ (r ≡ packedRun (madeOutcome replicas clients cells (now (rack .entry)) .answer)) × (now (rack .exit) ≡ madeOutcome replicas clients cells (now (rack .entry)) .lent) ⌝ }
+    ensures { λ r. ⌜ (r ≡ packedRun (madeOutcome replicas clients cells (now (rack .entry)) .answer)) ×
+        (now (rack .exit) ≡ madeOutcome replicas clients cells (now (rack .entry)) .lent) ⌝ }
 {
     let a = words::made(rack, replicas, clients, cells);
     packed_run(a)
@@ -119,7 +122,8 @@ pub extern "C" fn adze_rack_made(rack: &mut [u32], replicas: u32, clients: u32, 
 // Runs a schedule on the rack of lent words. An allowance of 32 bits, so that the number of events done fits the answer.
 #[no_mangle]
 pub extern "C" fn adze_rack_run(rack: &mut [u32], allowance: u32, events: &[u32]) -> u64
-    ensures { λ r. ⌜ (r ≡ packedRun (runOutcome (now (rack .entry)) allowance (now (events .entry)) .answer)) × (now (rack .exit) ≡ runOutcome (now (rack .entry)) allowance (now (events .entry)) .lent) ⌝ }
+    ensures { λ r. ⌜ (r ≡ packedRun (runOutcome (now (rack .entry)) allowance (now (events .entry)) .answer)) ×
+        (now (rack .exit) ≡ runOutcome (now (rack .entry)) allowance (now (events .entry)) .lent) ⌝ }
 {
     let a = words::run(rack, allowance as usize, events);
     packed_run(a)

@@ -42,7 +42,8 @@ module _ (s : List ℕ) (at : ℕ) where
   high zero r h z g q = absurd (z refl)
   high (suc f) r h z g q =
       let e : suc f - 1 ≡ f = omega arith in
-      let p : readGo (suc f) at (drop at s) ≡ push (getD s at 0) (readGo (suc f - 1) (at + 1) (drop (at + 1) s)) = simp (drop-cons s at 0 h, le-ltb (getD s at 0) 128 g, e, add-one) in
+      let p : readGo (suc f) at (drop at s) ≡ push (getD s at 0) (readGo (suc f - 1) (at + 1) (drop (at + 1) s)) =
+      simp (drop-cons s at 0 h, le-ltb (getD s at 0) 128 g, e, add-one) in
       p ∙ ap (push (getD s at 0)) q
 
 top-at-most : (f : ℕ) → f ≤ 3 → top f ≤ 2 ^ 25
@@ -106,7 +107,15 @@ step buf₀ at all buf i m (suc f) h small room long place same =
     let e = groups-more f m h in
     let l = more f m h in
     let o = groups-some f (m / 128) in
-    record { f = f; small = omega arith; ahead = simp length-set (omega arith); room = simp length-set (omega arith); long = simp length-set (omega arith); place = omega arith; same = simp add-one (simp e at same) }
+    record {
+      f = f;
+      small = omega arith;
+      ahead = simp length-set (omega arith);
+      room = simp length-set (omega arith);
+      long = simp length-set (omega arith);
+      place = omega arith;
+      same = simp add-one (simp e at same);
+    }
 
 -- the last group
 pub finish : (buf : List ℕ) (i m f : ℕ) → m < 128 → (length (groupsOf f m) ≡ 1) × (sets buf i (groupsOf f m) ≡ set buf i m)

@@ -102,7 +102,8 @@ fn note_entry(
     e: Entry,
 )
     requires { ⌜ (n < entryLimit) × InRange e × Low (now opened) ⌝ }
-    ensures { λ r. ⌜ Noted (now (kinds .entry)) (now (cells .entry)) (now (values .entry)) (now (starts .entry)) (now (opened .entry)) n (noteRow (now (cells .entry)) (now (opened .entry)) n e) (now (kinds .exit)) (now (cells .exit)) (now (values .exit)) (now (starts .exit)) (now (opened .exit)) ⌝ }
+    ensures { λ r. ⌜ Noted (now (kinds .entry)) (now (cells .entry)) (now (values .entry)) (now (starts .entry)) (now (opened .entry)) n
+        (noteRow (now (cells .entry)) (now (opened .entry)) n e) (now (kinds .exit)) (now (cells .exit)) (now (values .exit)) (now (starts .exit)) (now (opened .exit)) ⌝ }
 {
     let row = row_of(cells, opened, n, e);
     let client = row.client;

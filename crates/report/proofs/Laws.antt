@@ -19,11 +19,13 @@ module _ {l : List ℕ} (v : Verdict) {r : ℕ} {after : List ℕ} where
   unfolding lineOf
   says-lawful e w = rw e w
 
-  pub says-unlawful : (cell : Cell) {a : ℕ} {l′ : List ℕ} → v ≡ Unlawful cell → Printed l 0 (field unlawfulWords (cell .0)) a l′ → Printed l′ a lineFeed r after → Printed l 0 (lineOf v) r after
+  pub says-unlawful : (cell : Cell) {a : ℕ} {l′ : List ℕ} → v ≡ Unlawful cell → Printed l 0 (field unlawfulWords (cell .0)) a l′ → Printed l′ a lineFeed r after
+      → Printed l 0 (lineOf v) r after
   unfolding lineOf
   says-unlawful cell e u w = rw e (join u w)
 
-  pub says-refused : (number entry : ℕ) {a b : ℕ} {l′ l″ : List ℕ} → v ≡ Refused number entry → Printed l 0 (field refusedWord number) a l′ → Printed l′ a (field entryWords entry) b l″ → Printed l″ b lineFeed r after → Printed l 0 (lineOf v) r after
+  pub says-refused : (number entry : ℕ) {a b : ℕ} {l′ l″ : List ℕ} → v ≡ Refused number entry → Printed l 0 (field refusedWord number) a l′
+      → Printed l′ a (field entryWords entry) b l″ → Printed l″ b lineFeed r after → Printed l 0 (lineOf v) r after
   unfolding lineOf
   says-refused number entry e t u w = rw e (join t (join u w))
 

@@ -29,7 +29,8 @@ module _ {l : List ℕ} {at : ℕ} {l′ : List ℕ} {a : ℕ} (words : List ℕ
   pub all-words : length words ≤ i → Printed l at (take i words) a l′ → Printed l at words a l′
   all-words h v = same-text (take-all i words h) v
 
-  pub next-hex : {r : ℕ} {l″ : List ℕ} → i < length words → Printed l at (hexText (take i words)) a l′ → Printed l′ a (hexByte (getD words i 0)) r l″ → Printed l at (hexText (take (i + 1) words)) r l″
+  pub next-hex : {r : ℕ} {l″ : List ℕ} → i < length words → Printed l at (hexText (take i words)) a l′ → Printed l′ a (hexByte (getD words i 0)) r l″
+      → Printed l at (hexText (take (i + 1) words)) r l″
   next-hex h v w =
       same-text (hex-append (take i words) (getD words i 0 ∷ []) ∙ ap hexText (one-more words i h)) (join v (same-text (hex-one (getD words i 0)) w))
 
@@ -54,7 +55,8 @@ module _ (l : List ℕ) (at : ℕ) where
   one (suc p) n e h w = rw (lt-ltb n 10 h) w
 
   -- one more digit, after those of the tenth part
-  pub more : (places n : ℕ) {a r : ℕ} {l′ l″ : List ℕ} → (places ≡ 0 → ⊥) → 10 ≤ n → Printed l at (digitsOf (places - 1) (n / 10)) a l′ → Printed l′ a ((48 + n % 10) ∷ []) r l″ → Printed l at (digitsOf places n) r l″
+  pub more : (places n : ℕ) {a r : ℕ} {l′ l″ : List ℕ} → (places ≡ 0 → ⊥) → 10 ≤ n → Printed l at (digitsOf (places - 1) (n / 10)) a l′ → Printed l′ a ((48 + n % 10) ∷ []) r l″
+      → Printed l at (digitsOf places n) r l″
   unfolding digitsOf
   more zero n e h v w = absurd (e refl)
   more (suc p) n e h v w =

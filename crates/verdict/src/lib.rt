@@ -97,7 +97,8 @@ fn take_done(
     p: usize,
 )
     requires { ⌜ (p < 2048) × (getD (now starts) p 0 < 2048) ⌝ }
-    ensures { λ r. ⌜ now (least .exit) ≡ set (now (least .entry)) (getD (now (starts .entry)) p 0) (min (getD (now (least .entry)) (getD (now (starts .entry)) p 0) 0) (stopOf (getD (now (kinds .entry)) p 0) p)) ⌝ }
+    ensures { λ r. ⌜ now (least .exit) ≡ set (now (least .entry)) (getD (now (starts .entry)) p 0)
+        (min (getD (now (least .entry)) (getD (now (starts .entry)) p 0) 0) (stopOf (getD (now (kinds .entry)) p 0) p)) ⌝ }
 {
     let w = wide(starts[p]);
     let old = least[w];
@@ -112,7 +113,8 @@ fn take_zero(
     p: usize,
 )
     requires { ⌜ (p < 2048) × (getD (now cells) p 0 < 16) ⌝ }
-    ensures { λ r. ⌜ now (zero .exit) ≡ set (now (zero .entry)) (getD (now (cells .entry)) p 0) (max (getD (now (zero .entry)) (getD (now (cells .entry)) p 0) 0) (getD (now (starts .entry)) p 0)) ⌝ }
+    ensures { λ r. ⌜ now (zero .exit) ≡ set (now (zero .entry)) (getD (now (cells .entry)) p 0)
+        (max (getD (now (zero .entry)) (getD (now (cells .entry)) p 0) 0) (getD (now (starts .entry)) p 0)) ⌝ }
 {
     let c = wide_cell(cells[p]);
     let old = zero[c];
@@ -128,7 +130,8 @@ fn join(
     w: usize,
 )
     requires { ⌜ (p < 2048) × (w < 2048) ⌝ }
-    ensures { λ r. ⌜ (now (least .exit) ≡ set (now (least .entry)) w (min (getD (now (least .entry)) w 0) p)) × (now (most .exit) ≡ set (now (most .entry)) w (max (getD (now (most .entry)) w 0) (getD (now (starts .entry)) p 0))) ⌝ }
+    ensures { λ r. ⌜ (now (least .exit) ≡ set (now (least .entry)) w (min (getD (now (least .entry)) w 0) p)) ×
+        (now (most .exit) ≡ set (now (most .entry)) w (max (getD (now (most .entry)) w 0) (getD (now (starts .entry)) p 0))) ⌝ }
 {
     let low = least[w];
     least[w] = lesser(low, narrow(p));
@@ -160,8 +163,10 @@ fn take_read(
     bad: &mut [u8; Cell::LIMIT],
     p: usize,
 )
-    requires { ⌜ (getD (now kinds) p 0 ≡ 2) × Taking (arrays (now kinds) (now cells) (now values) (now starts)) n p (now head) (now next) (now least) (now most) (now zero) (now bad) ⌝ }
-    ensures { λ r. ⌜ Tally (arrays (now (kinds .entry)) (now (cells .entry)) (now (values .entry)) (now (starts .entry))) n (p + 1) (now (least .exit)) (now (most .exit)) (now (zero .exit)) (now (bad .exit)) ⌝ }
+    requires { ⌜ (getD (now kinds) p 0 ≡ 2) × Taking (arrays (now kinds) (now cells) (now values) (now starts)) n p (now head) (now next) (now least) (now most) (now zero)
+        (now bad) ⌝ }
+    ensures { λ r. ⌜ Tally (arrays (now (kinds .entry)) (now (cells .entry)) (now (values .entry)) (now (starts .entry))) n (p + 1) (now (least .exit)) (now (most .exit))
+        (now (zero .exit)) (now (bad .exit)) ⌝ }
 {
     let v = values[p];
     if v == 0 {
@@ -197,7 +202,8 @@ fn take_entry(
     p: usize,
 )
     requires { ⌜ Taking (arrays (now kinds) (now cells) (now values) (now starts)) n p (now head) (now next) (now least) (now most) (now zero) (now bad) ⌝ }
-    ensures { λ r. ⌜ Tally (arrays (now (kinds .entry)) (now (cells .entry)) (now (values .entry)) (now (starts .entry))) n (p + 1) (now (least .exit)) (now (most .exit)) (now (zero .exit)) (now (bad .exit)) ⌝ }
+    ensures { λ r. ⌜ Tally (arrays (now (kinds .entry)) (now (cells .entry)) (now (values .entry)) (now (starts .entry))) n (p + 1) (now (least .exit)) (now (most .exit))
+        (now (zero .exit)) (now (bad .exit)) ⌝ }
 {
     take_done(kinds, starts, &mut *least, p);
     if kinds[p] == 2 {
@@ -233,8 +239,10 @@ fn take_ends(
     zero: &mut [u16; Cell::LIMIT],
     bad: &mut [u8; Cell::LIMIT],
 )
-    requires { ⌜ Ready (arrays (now kinds) (now cells) (now values) (now starts)) n (now head) (now next) × Tally (arrays (now kinds) (now cells) (now values) (now starts)) n 0 (now least) (now most) (now zero) (now bad) ⌝ }
-    ensures { λ r. ⌜ Tally (arrays (now (kinds .entry)) (now (cells .entry)) (now (values .entry)) (now (starts .entry))) n n (now (least .exit)) (now (most .exit)) (now (zero .exit)) (now (bad .exit)) ⌝ }
+    requires { ⌜ Ready (arrays (now kinds) (now cells) (now values) (now starts)) n (now head) (now next) × Tally (arrays (now kinds) (now cells) (now values) (now starts)) n 0
+        (now least) (now most) (now zero) (now bad) ⌝ }
+    ensures { λ r. ⌜ Tally (arrays (now (kinds .entry)) (now (cells .entry)) (now (values .entry)) (now (starts .entry))) n n (now (least .exit)) (now (most .exit))
+        (now (zero .exit)) (now (bad .exit)) ⌝ }
 {
     let mut p: usize = 0;
     while p < n {
@@ -275,8 +283,10 @@ fn place(
     at: &mut [u16; PLACES],
     p: usize,
 )
-    requires { ⌜ (p < n) × Scattering (arrays (now kinds) (now cells) (now values) (now starts)) n (now least) (now most) × Scattered (arrays (now kinds) (now cells) (now values) (now starts)) n (now least) (now most) p (now at) ⌝ }
-    ensures { λ r. ⌜ Scattered (arrays (now (kinds .entry)) (now (cells .entry)) (now (values .entry)) (now (starts .entry))) n (now (least .entry)) (now (most .entry)) (p + 1) (now (at .exit)) ⌝ }
+    requires { ⌜ (p < n) × Scattering (arrays (now kinds) (now cells) (now values) (now starts)) n (now least) (now most) × Scattered
+        (arrays (now kinds) (now cells) (now values) (now starts)) n (now least) (now most) p (now at) ⌝ }
+    ensures { λ r. ⌜ Scattered (arrays (now (kinds .entry)) (now (cells .entry)) (now (values .entry)) (now (starts .entry))) n (now (least .entry)) (now (most .entry)) (p + 1)
+        (now (at .exit)) ⌝ }
 {
     let i = wide(place_of(kinds[p], lesser(least[p], most[p])));
     at[i] = narrow(p);
@@ -293,8 +303,10 @@ fn scatter(
     most: &[u16; ENTRY_LIMIT],
     at: &mut [u16; PLACES],
 )
-    requires { ⌜ Scattering (arrays (now kinds) (now cells) (now values) (now starts)) n (now least) (now most) × Scattered (arrays (now kinds) (now cells) (now values) (now starts)) n (now least) (now most) 0 (now at) ⌝ }
-    ensures { λ r. ⌜ Scattered (arrays (now (kinds .entry)) (now (cells .entry)) (now (values .entry)) (now (starts .entry))) n (now (least .entry)) (now (most .entry)) n (now (at .exit)) ⌝ }
+    requires { ⌜ Scattering (arrays (now kinds) (now cells) (now values) (now starts)) n (now least) (now most) × Scattered
+        (arrays (now kinds) (now cells) (now values) (now starts)) n (now least) (now most) 0 (now at) ⌝ }
+    ensures { λ r. ⌜ Scattered (arrays (now (kinds .entry)) (now (cells .entry)) (now (values .entry)) (now (starts .entry))) n (now (least .entry)) (now (most .entry)) n
+        (now (at .exit)) ⌝ }
 {
     let mut p: usize = 0;
     while p < n {
@@ -313,7 +325,10 @@ fn meet(
     w: usize,
 )
     requires { ⌜ (w < 2048) × (getD (now cells) w 0 < 16) ⌝ }
-    ensures { λ r. ⌜ (now (reach .exit) ≡ set (now (reach .entry)) (getD (now (cells .entry)) w 0) (max (getD (now (reach .entry)) (getD (now (cells .entry)) w 0) 0) (getD (now (most .entry)) w 0))) × (now (bad .exit) ≡ set (now (bad .entry)) (getD (now (cells .entry)) w 0) (markOf (getD (now (least .entry)) w 0) (getD (now (reach .entry)) (getD (now (cells .entry)) w 0) 0) (getD (now (bad .entry)) (getD (now (cells .entry)) w 0) 0))) ⌝ }
+    ensures { λ r. ⌜ (now (reach .exit) ≡ set (now (reach .entry)) (getD (now (cells .entry)) w 0)
+        (max (getD (now (reach .entry)) (getD (now (cells .entry)) w 0) 0) (getD (now (most .entry)) w 0))) ×
+        (now (bad .exit) ≡ set (now (bad .entry)) (getD (now (cells .entry)) w 0)
+        (markOf (getD (now (least .entry)) w 0) (getD (now (reach .entry)) (getD (now (cells .entry)) w 0) 0) (getD (now (bad .entry)) (getD (now (cells .entry)) w 0) 0))) ⌝ }
 {
     let c = wide_cell(cells[w]);
     let r = reach[c];
@@ -337,7 +352,8 @@ fn visit(
     p: usize,
 )
     requires { ⌜ (p < n) × Sweepable (arrays (now kinds) (now cells) (now values) (now starts)) n (now least) (now most) (now at) ⌝ }
-    ensures { λ r. ⌜ Visited (arrays (now (kinds .entry)) (now (cells .entry)) (now (values .entry)) (now (starts .entry))) n (now (least .entry)) (now (most .entry)) p (now (reach .entry)) (now (bad .entry)) (now (reach .exit)) (now (bad .exit)) ⌝ }
+    ensures { λ r. ⌜ Visited (arrays (now (kinds .entry)) (now (cells .entry)) (now (values .entry)) (now (starts .entry))) n (now (least .entry)) (now (most .entry)) p
+        (now (reach .entry)) (now (bad .entry)) (now (reach .exit)) (now (bad .exit)) ⌝ }
 {
     let w = wide(at[p]);
     if n <= w {
@@ -360,7 +376,8 @@ fn sweep(
     bad: &mut [u8; Cell::LIMIT],
 )
     requires { ⌜ Sweepable (arrays (now kinds) (now cells) (now values) (now starts)) n (now least) (now most) (now at) × (length (now reach) ≡ 16) × (length (now bad) ≡ 16) ⌝ }
-    ensures { λ r. ⌜ Swept (arrays (now (kinds .entry)) (now (cells .entry)) (now (values .entry)) (now (starts .entry))) n (now (least .entry)) (now (most .entry)) (now (reach .entry)) (now (bad .entry)) (now (bad .exit)) ⌝ }
+    ensures { λ r. ⌜ Swept (arrays (now (kinds .entry)) (now (cells .entry)) (now (values .entry)) (now (starts .entry))) n (now (least .entry)) (now (most .entry))
+        (now (reach .entry)) (now (bad .entry)) (now (bad .exit)) ⌝ }
 {
     let mut p: usize = 0;
     while p < n {
@@ -408,7 +425,8 @@ fn order(
     bad: &mut [u8; Cell::LIMIT],
 )
     requires { ⌜ Scattering (arrays (now kinds) (now cells) (now values) (now starts)) n (now least) (now most) × (length (now reach) ≡ 16) × (length (now bad) ≡ 16) ⌝ }
-    ensures { λ r. ⌜ Swept (arrays (now (kinds .entry)) (now (cells .entry)) (now (values .entry)) (now (starts .entry))) n (now (least .entry)) (now (most .entry)) (now (reach .entry)) (now (bad .entry)) (now (bad .exit)) ⌝ }
+    ensures { λ r. ⌜ Swept (arrays (now (kinds .entry)) (now (cells .entry)) (now (values .entry)) (now (starts .entry))) n (now (least .entry)) (now (most .entry))
+        (now (reach .entry)) (now (bad .entry)) (now (bad .exit)) ⌝ }
 {
     let mut at = [FAR; PLACES];
     scatter(kinds, cells, values, starts, n, least, most, &mut at);

@@ -824,7 +824,8 @@ pub fn made(words: &mut [u32], replicas: u32, clients: u32, cells: u32) -> Words
 
 // Runs a schedule on the rack of the words.
 pub fn run(words: &mut [u32], allowance: usize, events: &[u32]) -> WordsAnswer
-    ensures { λ r. ⌜ (r ≡ runOutcome (now (words .entry)) allowance (now (events .entry)) .answer) × (now (words .exit) ≡ runOutcome (now (words .entry)) allowance (now (events .entry)) .lent) ⌝ }
+    ensures { λ r. ⌜ (r ≡ runOutcome (now (words .entry)) allowance (now (events .entry)) .answer) ×
+        (now (words .exit) ≡ runOutcome (now (words .entry)) allowance (now (events .entry)) .lent) ⌝ }
 {
     if words.len() != WORDS {
         return answered(0, 20);

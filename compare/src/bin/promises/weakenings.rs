@@ -60,7 +60,7 @@ const WEAKENINGS: &[Weakening] = &[
     },
     Weakening {
         label: "a hypothesis on a second line of a statement",
-        edits: &[edit("counts", "Requests.antt", "(c : ℕ) → 1 ≤ partyAt after c .op\n", "(c : ℕ) → 1 ≤ partyAt after c .op\n      → ⊥\n")],
+        edits: &[edit("counts", "Requests.antt", "  pub present : (c : ℕ) → 1 ≤ partyAt (rackAfter replicas clients cells allowance ws) c .op\n", "  pub present : (c : ℕ) → 1 ≤ partyAt (rackAfter replicas clients cells allowance ws) c .op\n      → ⊥\n")],
         mentions: "present",
     },
     Weakening {
@@ -81,9 +81,9 @@ const WEAKENINGS: &[Weakening] = &[
                 "sheet",
                 "Sheet.antt",
                 concat!(
-                    "  pub early-5 : Says\n",
+                    "  pub early-5 : BytesSay\n",
                     "      (0x00 ∷ 0x01 ∷ 0x02 ∷ 0x02 ∷ 0x01 ∷ 0x0A ∷ 0x01 ∷ 0x00 ∷ 0x02 ∷ 0x0A ∷ 0x03 ∷ 0x00 ∷ [])\n",
-                    "      (reads 1 2 ∷ told 1 (pos 5) ∷ writes 0 2 (pos 5) ∷ done 0 ∷ [])\n",
+                    "      (reads 1 2 ∷ toldBy 1 (pos 5) ∷ writes 0 2 (pos 5) ∷ doneBy 0 ∷ [])\n",
                     "      (unlawful 2)\n"
                 ),
                 "",
@@ -131,9 +131,9 @@ const WEAKENINGS: &[Weakening] = &[
         mentions: "distinct",
     },
     Weakening {
-        label: "a definition inside a module changed",
-        edits: &[edit("counts", "Requests.antt", "  after = runOf made allowance ws .rack\n", "  after = runOf made 0 ws .rack\n")],
-        mentions: "after = runOf made 0",
+        label: "a definition that only statements of another file are made of changed",
+        edits: &[edit("counts", "Counts.antt", "(madeRack replicas clients cells) allowance ws .rack\n", "(madeRack replicas clients cells) 0 ws .rack\n")],
+        mentions: "rackAfter",
     },
     Weakening {
         label: "the limit of 2,048 entries changed",

@@ -36,7 +36,8 @@ returns : tie.Need-returns
 returns c =
     let q = c .before .before .before .before .before .before .before .before .entries-in .ensures in
     lined-writes {r = c .before .before .before .before .before .before .before .before .before .before .before .args .rack}
-    (record { few = q .0; all = q .1 .1; room = omega (arith, q .0, q .1 .0); rows = c .before .before .before .before .before .before .store-lines .ensures }) _ _ _ (c .before .before .write-record .ensures)
+    (record { few = q .0; all = q .1 .1; room = omega (arith, q .0, q .1 .0); rows = c .before .before .before .before .before .before .store-lines .ensures }) _ _ _
+    (c .before .before .write-record .ensures)
 
 pub write-record-of-spec : {M : Type 1} → statement M
 write-record-of-spec =

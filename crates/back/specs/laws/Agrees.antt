@@ -200,7 +200,8 @@ agree-stays r e p h a v g =
     let q : Keeps (r .sizes) k (openIn (lookedParty r e .work)) p = decided-keeps r e p h (a .small) v g in
     let most : r .count + entriesIn (p .note) ≤ entryLimit = room-stays r e p h g in
     let long : length (recorded (p .note) (r .count) (r .lines)) ≡ entryLimit = recorded-long (p .note) (r .count) (r .lines) ∙ a .lines in
-    let t = rw (← record-next r e p h a g) at (note-goes (r .sizes) (s .sizes) (recordOf r) (p .note) k _ (openIn (p .party .work)) (a .within) (a .follows) (a .stands k c) (q .note)) in
+    let t = rw (← record-next r e p h a g) at
+    (note-goes (r .sizes) (s .sizes) (recordOf r) (p .note) k _ (openIn (p .party .work)) (a .within) (a .follows) (a .stands k c) (q .note)) in
     record {
       parties = length-set (r .parties) k (p .party) ∙ a .parties;
       lines = long;

@@ -241,7 +241,8 @@ ahead-stays r e p rest h a g w =
     let same : writesIn (p .note) ≡ writesBy e = subst (OutcomeAdds (writesBy e)) (decided-plan r e p h g) (plan-adds (sight r e) (lookedHeld r e) e) in
     rw (record-next r e p h a g) (ahead-note (recordOf r) rest (p .note) (rw same w))
 
-from-clear : (done : ℕ) (r : Rack) (left : ℕ) (ws : List ℕ) → Words ws → soundOf r ≡ true → Agrees r → Ahead (recordOf r) (writesOf ws) → Clear [] (recordOf (runFrom done r left ws .rack))
+from-clear : (done : ℕ) (r : Rack) (left : ℕ) (ws : List ℕ) → Words ws → soundOf r ≡ true → Agrees r → Ahead (recordOf r) (writesOf ws)
+    → Clear [] (recordOf (runFrom done r left ws .rack))
 unfolding runFrom turn writesOf
 from-clear done r zero ws h s a c = c .0
 from-clear done r (suc left) [] h s a c = c .0

@@ -154,7 +154,8 @@ module _ (z : Sizes) (power : ℕ) (party : Party) (pair : Pair) (work : WorkSma
         → OutcomeKeeps z (m .client .0) has (phaseEnds goal seen m cell held)
     unfolding phaseEnds
     phase-keeps Read cell held o hg hp = moves cell Read held o hp
-    phase-keeps (Write v) cell held o hg hp = whichever (OutcomeKeeps z (m .client .0) has) (eqb (held .stamp .number) 4294967295) _ _ tt (moves cell (Write v) (written (m .client) v held) o hg)
+    phase-keeps (Write v) cell held o hg hp =
+        whichever (OutcomeKeeps z (m .client .0) has) (eqb (held .stamp .number) 4294967295) _ _ tt (moves cell (Write v) (written (m .client) v held) o hg)
 
     tell-in-keeps : (q : Pair) → PairSmall q → (w : Work) → WorkSmall w → openIn w ≡ has → OutcomeKeeps z (m .client .0) has (tellIn w seen m q)
     unfolding tellIn tellCounts
@@ -195,7 +196,8 @@ module _ (z : Sizes) (power : ℕ) (party : Party) (pair : Pair) (work : WorkSma
     unfolding deliverIn askOf keepOf
     deliver-keeps Ask hb = whichever (OutcomeKeeps z (m .client .0) has) (hasReplica power (m .replica .0)) _ _ (answered-keeps pair (Tell pair) here here) tt
     deliver-keeps (Tell q) hb = tell-keeps q hb
-    deliver-keeps (Keep q) hb = whichever (OutcomeKeeps z (m .client .0) has) (hasReplica power (m .replica .0)) _ _ (answered-keeps (raised pair q) Kept (raised-small pair q here hb) tt) tt
+    deliver-keeps (Keep q) hb = whichever (OutcomeKeeps z (m .client .0) has) (hasReplica power (m .replica .0)) _ _
+        (answered-keeps (raised pair q) Kept (raised-small pair q here hb) tt) tt
     deliver-keeps Kept hb = kept-keeps
 
   -- ---- resend, stop, power

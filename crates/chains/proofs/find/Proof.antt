@@ -48,7 +48,8 @@ loop-less : tie.Need-loop-less Inv-loop μ-loop
 loop-less c = walk-down (c .before .before .before .before .before .loop .inv) (c .before .before .before .before .loop-test .taken) (c .wide2 .ensures)
 
 loop-again : tie.Need-loop-again Inv-loop μ-loop
-loop-again c = walk-on (c .before .before .before .before .before .loop .inv) (c .before .before .before .before .loop-test .taken) (c .wide2 .ensures) (c .before .before .before .suits .ensures .no (c .before .before .if1 .left))
+loop-again c = walk-on (c .before .before .before .before .before .loop .inv) (c .before .before .before .before .loop-test .taken) (c .wide2 .ensures)
+    (c .before .before .before .suits .ensures .no (c .before .before .if1 .left))
 
 returns-2 : tie.Need-returns-2 Inv-loop μ-loop
 returns-2 c = walk-none (c .before .loop .inv) (c .loop-test .left)

@@ -94,7 +94,8 @@ module _ (a : Arrays) (n : ℕ) (ops : List Op) (h : Holds a n ops) where
   pub entry-write : (w : ℕ) → IsWrite a n w → (x : Op) × (In x ops) × (x .write ≡ true) × (x .number ≡ w)
   entry-write w i = ⊎-elim
       (λ s. let x = s .0 in (x, s .1 .0, kind-start (x .write) (kindAt a (x .number)) (h .paired .started x (s .1 .0) .1 .kind) (ap (kindAt a) (s .1 .1) ∙ i .1), s .1 .1))
-      (λ s. let x = s .0 in absurd (let k = kind-end (x .write) (kindAt a (x .stop)) (kind-stop x (s .1 .0) (s .1 .1 .0)) .1 .1 in omega (arith, k, i .1, ap (kindAt a) (s .1 .1 .1))))
+      (λ s. let x = s .0 in absurd (let k = kind-end (x .write) (kindAt a (x .stop)) (kind-stop x (s .1 .0) (s .1 .1 .0)) .1 .1 in
+      omega (arith, k, i .1, ap (kindAt a) (s .1 .1 .1))))
       (h .paired .each w (i .0))
 
   entry-end : (b : Bool) (p : ℕ) → p < n → kindAt a p ≡ cond b 3 2 → (x : Op) × EndedBy ops b p x
@@ -144,7 +145,14 @@ module _ (a : Arrays) (n : ℕ) (ops : List Op) (h : Holds a n ops) where
   start-any : (p : ℕ) → p < n → startAt a p ≤ p
   start-any p l = ⊎-elim
       (λ s. omega (arith, h .paired .started (s .0) (s .1 .0) .1 .start, ap (startAt a) (s .1 .1), s .1 .1))
-      (λ s. omega (arith, start-stop (s .0) (s .1 .0) (s .1 .1 .0), ap (startAt a) (s .1 .1 .1), s .1 .1 .1, start-number (s .0) (s .1 .0), start-before (s .0) (s .1 .0) (s .1 .1 .0)))
+      (λ s. omega (
+        arith,
+        start-stop (s .0) (s .1 .0) (s .1 .1 .0),
+        ap (startAt a) (s .1 .1 .1),
+        s .1 .1 .1,
+        start-number (s .0) (s .1 .0),
+        start-before (s .0) (s .1 .0) (s .1 .1 .0),
+      ))
       (h .paired .each p l)
 
   -- the kind of an end's start

@@ -87,7 +87,12 @@ module _ (a : Arrays) (n : ℕ) (ops : List Op) (h : Holds a n ops) (fresh : Fre
   highest w x m k e = go (x .write) refl (k .1)
     where
       go : (b : Bool) → x .write ≡ b → (x .write ≡ true) ⊎ T (x .over) → x .start ≤ getD most (w .number) 0
-      go true i o = omega (arith, start-number a n ops h x (inside x (k .0)), ap (λ (y : Op). y .number) (differ .apart (k .0) (m .0) i (m .1) e), t .highs .above (w .number) (entry w m))
+      go true i o = omega (
+        arith,
+        start-number a n ops h x (inside x (k .0)),
+        ap (λ (y : Op). y .number) (differ .apart (k .0) (m .0) i (m .1) e),
+        t .highs .above (w .number) (entry w m),
+      )
       go false i (inl o) = absurd (true≢false (sym o ∙ i))
       go false i (inr o) =
           let r : ReadOf a (w .number) (x .stop) = (

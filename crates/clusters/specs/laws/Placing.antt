@@ -116,10 +116,13 @@ module _ {a : Arrays} {n : ℕ} {least most : List ℕ} where
       same = getD-set-same at (placeOf least most p) p 0 (omega (arith, own .inside p i, fit .few, s .long))
 
       found : (q : ℕ) → getD (set at (placeOf least most p) p) q 0 ≡ p → q ≡ placeOf least most p
-          → IsWrite a n (getD (set at (placeOf least most p) p) q 0) × (getD (set at (placeOf least most p) p) q 0 < p + 1) × (placeOf least most (getD (set at (placeOf least most p) p) q 0) ≡ q)
+          → IsWrite a n (getD (set at (placeOf least most p) p) q 0) × (getD (set at (placeOf least most p) p) q 0 < p + 1) ×
+          (placeOf least most (getD (set at (placeOf least most p) p) q 0) ≡ q)
       found q f e = (subst (IsWrite a n) (sym f) i, omega (arith, f), ap (placeOf least most) f ∙ sym e)
 
       other : (q : ℕ) → q < 2048 → getD (set at (placeOf least most p) p) q 0 ≡ getD at q 0
-          → (getD (set at (placeOf least most p) p) q 0 ≡ far) ⊎ (IsWrite a n (getD (set at (placeOf least most p) p) q 0) × (getD (set at (placeOf least most p) p) q 0 < p + 1) × (placeOf least most (getD (set at (placeOf least most p) p) q 0) ≡ q))
+          → (getD (set at (placeOf least most p) p) q 0 ≡ far) ⊎
+          (IsWrite a n (getD (set at (placeOf least most p) p) q 0) × (getD (set at (placeOf least most p) p) q 0 < p + 1) ×
+          (placeOf least most (getD (set at (placeOf least most p) p) q 0) ≡ q))
       other q b f = ⊎-elim (λ e. inl (f ∙ e))
           (λ (j, l, e). inr (subst (IsWrite a n) (sym f) j, omega (arith, f, l), ap (placeOf least most) f ∙ e)) (s .only q b)

@@ -93,7 +93,8 @@ told-read st client v f = go (eqb (has st (client .0)) 1) refl f
     go false e f = absurd (omega arith)
 
 -- an operation after one entry more
-stays-next : (st : Standing) (n : ℕ) (e : Entry) (ops : List Op) → faultAfter st e ≡ 0 → Matches st ops → (x : Op) → In x ops → (y : Op) × (In y (noteStep n (stepOf e) ops) × Stays x y)
+stays-next : (st : Standing) (n : ℕ) (e : Entry) (ops : List Op) → faultAfter st e ≡ 0 → Matches st ops → (x : Op) → In x ops
+    → (y : Op) × (In y (noteStep n (stepOf e) ops) × Stays x y)
 stays-next st n (ReadAsked client cell) ops f t x m = (x, (mem-left (asked n (client .0) (cell .0) false (pos 0) n ∷ []) m, stays-same x))
 stays-next st n (WriteAsked client cell v) ops f t x m = (x, (mem-left (asked n (client .0) (cell .0) true v n ∷ []) m, stays-same x))
 stays-next st n (Told client v) ops f t x m = (
@@ -106,7 +107,8 @@ stays-next st n (Told client v) ops f t x m = (
         omega (arith, r, k, ap (has st) (c .0)))),
   ),
 )
-stays-next st n (Done client) ops f t x m = (ending n (client .0) (λ old. old) x, (mem-map (ending n (client .0) (λ old. old)) m, stays-ending n (client .0) (λ old. old) x (λ w o. refl)))
+stays-next st n (Done client) ops f t x m =
+    (ending n (client .0) (λ old. old) x, (mem-map (ending n (client .0) (λ old. old)) m, stays-ending n (client .0) (λ old. old) x (λ w o. refl)))
 
 -- after all
 stays-after : (st : Standing) (n : ℕ) (es : List Entry) (ops : List Op) → Follows st es → Matches st ops → (x : Op) → In x ops → (y : Op) × (In y (notes n es ops) × Stays x y)
@@ -145,7 +147,8 @@ below-next n (ends k v) ops d x m =
 
 module _ (a : Arrays) (all : ℕ) (final : List Op) (h : Holds a all final) where
   -- the entry n starts x
-  starts : (n : ℕ) (es : List Entry) (st : Standing) (ops : List Op) → Follows st es → Matches st ops → notes n es ops ≡ final → (x : Op) → In x ops → (y : Op) × (In y final × Stays x y)
+  starts : (n : ℕ) (es : List Entry) (st : Standing) (ops : List Op) → Follows st es → Matches st ops → notes n es ops ≡ final → (x : Op) → In x ops
+      → (y : Op) × (In y final × Stays x y)
   starts n es st ops f t e x m = let s = stays-after st n es ops f t x m in (s .0, (subst (λ (l : List Op). In (s .0) l) e (s .1 .0), s .1 .1))
 
   shows-write : (x y : Op) → In y final → Stays x y → x .write ≡ true → Asks (a .kinds) (a .cells) (a .values) (x .number) (x .cell) (alternatingOf (x .value))
@@ -176,16 +179,19 @@ module _ (a : Arrays) (all : ℕ) (final : List Op) (h : Holds a all final) wher
   unfolding note
   shown-one n (ReadAsked client cell) es st ops l f t d e =
       let x = asked n (client .0) (cell .0) false (pos 0) n in
-      let s = starts (suc n) es (standingAfter st (ReadAsked client cell)) (ops ++ (x ∷ [])) (f .2) (tied-next st n (ReadAsked client cell) es ops f t) e x (mem-right ops (here refl)) in
+      let s = starts (suc n) es (standingAfter st (ReadAsked client cell)) (ops ++ (x ∷ [])) (f .2) (tied-next st n (ReadAsked client cell) es ops f t) e x
+      (mem-right ops (here refl)) in
       shows-read x (s .0) (s .1 .0) (s .1 .1) refl
   shown-one n (WriteAsked client cell v) es st ops l f t d e =
       let x = asked n (client .0) (cell .0) true v n in
-      let s = starts (suc n) es (standingAfter st (WriteAsked client cell v)) (ops ++ (x ∷ [])) (f .2) (tied-next st n (WriteAsked client cell v) es ops f t) e x (mem-right ops (here refl)) in
+      let s = starts (suc n) es (standingAfter st (WriteAsked client cell v)) (ops ++ (x ∷ [])) (f .2) (tied-next st n (WriteAsked client cell v) es ops f t) e x
+      (mem-right ops (here refl)) in
       shows-write x (s .0) (s .1 .0) (s .1 .1) refl
   shown-one n (Told client v) es st ops l f t d e = shows-end n es (client .0) (λ old. v) ops l d e
   shown-one n (Done client) es st ops l f t d e = shows-end n es (client .0) (λ old. old) ops l d e
 
-  shown-from : (n : ℕ) (es : List Entry) (st : Standing) (ops : List Op) → n + length es ≡ all → Follows st es → Matches st ops → Below n ops → notes n es ops ≡ final → AllShow a n es
+  shown-from : (n : ℕ) (es : List Entry) (st : Standing) (ops : List Op) → n + length es ≡ all → Follows st es → Matches st ops → Below n ops → notes n es ops ≡ final
+      → AllShow a n es
   unfolding notes
   shown-from n [] st ops l f t d e = tt
   shown-from n (x ∷ es) st ops l f t d e = (

@@ -205,32 +205,43 @@ present-cost n party = rw (le-ltb (party .op) (party .op) (omega arith), eq-eqb 
 
 module _ (replicas clients cells allowance : ℕ) (ws : List ℕ) where
   ran : (c k : ℕ) → 1 ≤ k → Numbered ((madeRack replicas clients cells) .sizes .replicas) c (rackAfter replicas clients cells allowance ws)
-      × (costOf ((madeRack replicas clients cells) .sizes .replicas) (partyAt (rackAfter replicas clients cells allowance ws) c) k + totalOf (resentBy c k) (madeRack replicas clients cells) allowance ws ≡ totalOf (requestsBy c k) (madeRack replicas clients cells) allowance ws)
+      × (costOf ((madeRack replicas clients cells) .sizes .replicas) (partyAt (rackAfter replicas clients cells allowance ws) c) k + totalOf (resentBy c k)
+      (madeRack replicas clients cells) allowance ws ≡ totalOf (requestsBy c k) (madeRack replicas clients cells) allowance ws)
   ran c k h =
       let s = made-sound replicas clients cells in
       let f = made-fresh (Fresh c) (fresh-numbered c) replicas clients cells s in
       let n : ℕ = (madeRack replicas clients cells) .sizes .replicas in
-      let a = run-adds (Numbered n c) (λ (r : Rack). costOf n (partyAt r c) k) (resentBy c k) (requestsBy c k) (event-costs n c k) (madeRack replicas clients cells) allowance ws s (f .0) in
+      let a = run-adds (Numbered n c) (λ (r : Rack). costOf n (partyAt r c) k) (resentBy c k) (requestsBy c k) (event-costs n c k) (madeRack replicas clients cells) allowance ws s
+      (f .0) in
       (a .0, omega (arith, a .1, ap (λ (x : Party). costOf n x k) (f .1), fresh-cost n k h))
 
   -- Operation k of client c, ended or open or not yet started: its requests are what it costs where it stands, plus its resends.
   pub costs : (c k : ℕ) → 1 ≤ k
-      → totalOf (requestsBy c k) (madeRack replicas clients cells) allowance ws ≡ costOf ((madeRack replicas clients cells) .sizes .replicas) (partyAt (rackAfter replicas clients cells allowance ws) c) k + totalOf (resentBy c k) (madeRack replicas clients cells) allowance ws
+      → totalOf (requestsBy c k) (madeRack replicas clients cells) allowance ws ≡ costOf ((madeRack replicas clients cells) .sizes .replicas)
+      (partyAt (rackAfter replicas clients cells allowance ws) c) k + totalOf (resentBy c k) (madeRack replicas clients cells) allowance ws
   costs c k h = sym (ran c k h .1)
 
   -- A finished operation, whose end entry is in the record, has cost 2 requests per replica, plus its resends.
   pub two-per-replica : (c k : ℕ) → 1 ≤ k → k ≤ endsOf c (recordOf (rackAfter replicas clients cells allowance ws))
-      → totalOf (requestsBy c k) (madeRack replicas clients cells) allowance ws ≡ 2 * (madeRack replicas clients cells) .sizes .replicas + totalOf (resentBy c k) (madeRack replicas clients cells) allowance ws
+      → totalOf (requestsBy c k) (madeRack replicas clients cells) allowance ws ≡ 2 * (madeRack replicas clients cells) .sizes .replicas + totalOf (resentBy c k)
+      (madeRack replicas clients cells) allowance ws
   two-per-replica c k h l =
-      let e = ended-cost ((madeRack replicas clients cells) .sizes .replicas) (partyAt (rackAfter replicas clients cells allowance ws) c) (endsOf c (recordOf (rackAfter replicas clients cells allowance ws))) k (ran c k h .0 .ends) l in
+      let e = ended-cost ((madeRack replicas clients cells) .sizes .replicas) (partyAt (rackAfter replicas clients cells allowance ws) c)
+      (endsOf c (recordOf (rackAfter replicas clients cells allowance ws))) k (ran c k h .0 .ends) l in
       omega (arith, costs c k h, e)
 
   -- The present operation of client c: 1 request per replica while it asks, 2 from then on, plus its resends.
   pub present : (c : ℕ) → 1 ≤ partyAt (rackAfter replicas clients cells allowance ws) c .op
       → totalOf (requestsBy c (partyAt (rackAfter replicas clients cells allowance ws) c .op)) (madeRack replicas clients cells) allowance ws
-      ≡ costIn ((madeRack replicas clients cells) .sizes .replicas) (partyAt (rackAfter replicas clients cells allowance ws) c .work) + totalOf (resentBy c (partyAt (rackAfter replicas clients cells allowance ws) c .op)) (madeRack replicas clients cells) allowance ws
-  present c h = omega (arith, costs c (partyAt (rackAfter replicas clients cells allowance ws) c .op) h, present-cost ((madeRack replicas clients cells) .sizes .replicas) (partyAt (rackAfter replicas clients cells allowance ws) c))
+      ≡ costIn ((madeRack replicas clients cells) .sizes .replicas) (partyAt (rackAfter replicas clients cells allowance ws) c .work) + totalOf
+      (resentBy c (partyAt (rackAfter replicas clients cells allowance ws) c .op)) (madeRack replicas clients cells) allowance ws
+  present c h = omega (
+    arith,
+    costs c (partyAt (rackAfter replicas clients cells allowance ws) c .op) h,
+    present-cost ((madeRack replicas clients cells) .sizes .replicas) (partyAt (rackAfter replicas clients cells allowance ws) c),
+  )
 
   -- The operations that the record ends, and an open one, are the client's operation numbers.
-  pub numbers : (c : ℕ) → endsOf c (recordOf (rackAfter replicas clients cells allowance ws)) + owes (partyAt (rackAfter replicas clients cells allowance ws) c .work) ≡ partyAt (rackAfter replicas clients cells allowance ws) c .op
+  pub numbers : (c : ℕ) → endsOf c (recordOf (rackAfter replicas clients cells allowance ws)) + owes (partyAt (rackAfter replicas clients cells allowance ws) c .work) ≡ partyAt
+      (rackAfter replicas clients cells allowance ws) c .op
   numbers c = ran c 1 (omega arith) .0 .ends

@@ -19,5 +19,9 @@ use Rattle.counts.specs.Counts.{inUse, copiedBy, lostBy, totalOf, isRequ
 use Rattle.counts.specs.Sheet.{CountLine}
 
 pub count-line : CountLine
-unfolding inUse copiedBy lostBy totalOf isRequest requestOf requestsBy endsBy endsOf recordOf setBits hasReplica withReplica majority asksEnough keepsEnough everyReplica within membersFrom ones countFrom firstFrom stampLess raised started startIn startOf askOf keepOf current keepsOf phaseEnds holds tellCounts tellIn tellOf lastEntry keptCounts keptIn keptOf deliverIn deliverOf ofSlot planOf freeAt roomOf sentOf allBelow sizesFit pairFits bodyFits messageFits heldFits workFits owes owedBy owedIn owed wireFits pairsFit partiesFit recordFits soundOf freshRack byte eventOf inRack slotOf clientIn placeIn clientOf noted freed checked decided addressed cleared recorded entriesIn appliedOf turn runFrom runOf signedOf sentBy deliveredBy counted countOver
+unfolding inUse copiedBy lostBy totalOf isRequest requestOf requestsBy endsBy endsOf recordOf setBits hasReplica withReplica majority asksEnough keepsEnough everyReplica within
+    membersFrom ones countFrom firstFrom stampLess raised started startIn startOf askOf keepOf current keepsOf phaseEnds holds tellCounts tellIn tellOf lastEntry keptCounts keptIn
+    keptOf deliverIn deliverOf ofSlot planOf freeAt roomOf sentOf allBelow sizesFit pairFits bodyFits messageFits heldFits workFits owes owedBy owedIn owed wireFits pairsFit
+    partiesFit recordFits soundOf freshRack byte eventOf inRack slotOf clientIn placeIn clientOf noted freed checked decided addressed cleared recorded entriesIn appliedOf turn
+    runFrom runOf signedOf sentBy deliveredBy counted countOver
 count-line = record { tally = refl; used = refl; ended = refl; requests = refl }

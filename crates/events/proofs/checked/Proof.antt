@@ -34,7 +34,11 @@ crowded-requires c κs = search needs
 
 returns : tie.Need-returns
 unfolding checked noted
-returns c = rw (c .before .before .before .before .before .before .outcome2 .given .1, c .before .before .before .enum-told3 .given .1, crowded-by _ _ _ _ _ (c .before .crowded .ensures) (c .before .before .owed-by-all .ensures) (c .if1 .taken))
+returns c = rw (
+  c .before .before .before .before .before .before .outcome2 .given .1,
+  c .before .before .before .enum-told3 .given .1,
+  crowded-by _ _ _ _ _ (c .before .crowded .ensures) (c .before .before .owed-by-all .ensures) (c .if1 .taken),
+)
 
 sent-requires-3 : tie.Need-sent-requires-3
 sent-requires-3 c κs = search needs

@@ -26,7 +26,11 @@ cast-t8 c = search needs
 
 returns-3 : tie.Need-returns-3
 unfolding byte
-returns-3 c = rw (signed-of-bits (c .signed .result) (c .before .before .before .args .value) (omega arith) (c .signed .ensures), lt-ltb _ _ (c .before .before .if1 .left), lt-ltb _ _ (c .before .if2 .left))
+returns-3 c = rw (
+  signed-of-bits (c .signed .result) (c .before .before .before .args .value) (omega arith) (c .signed .ensures),
+  lt-ltb _ _ (c .before .before .if1 .left),
+  lt-ltb _ _ (c .before .if2 .left),
+)
 
 pub start-write-spec : {M : Type 1} → statement M
 start-write-spec = tie.close (tie.spec returns returns-2 signed-requires cast-t6 cast-t8 returns-3)

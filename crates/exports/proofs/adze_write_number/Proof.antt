@@ -33,14 +33,22 @@ same-length c = search needs
 
 returns : tie.Need-returns
 unfolding packedPut
-returns c = (sym (ap (packedPut (c .before .before .before .before .before .before .before .before .args .at)) (sym (c .before .before .before .before .before .write-number .ensures .answer) ∙ c .before .next .given .1)), c .before .before .before .before .before .write-number .ensures .bytes)
+returns c = (
+  sym (ap (packedPut (c .before .before .before .before .before .before .before .before .args .at))
+      (sym (c .before .before .before .before .before .write-number .ensures .answer) ∙ c .before .next .given .1)),
+  c .before .before .before .before .before .write-number .ensures .bytes,
+)
 
 same-length-2 : tie.Need-same-length-2
 same-length-2 c = search needs
 
 returns-2 : tie.Need-returns-2
 unfolding packedPut
-returns-2 c = (sym (ap (packedPut (c .before .before .before .before .before .before .before .args .at)) (sym (c .before .before .before .before .write-number .ensures .answer) ∙ c .enum-told .given .1)), c .before .before .before .before .write-number .ensures .bytes)
+returns-2 c = (
+  sym (ap (packedPut (c .before .before .before .before .before .before .before .args .at)) (sym (c .before .before .before .before .write-number .ensures .answer)
+      ∙ c .enum-told .given .1)),
+  c .before .before .before .before .write-number .ensures .bytes,
+)
 
 pub adze-write-number-spec : {M : Type 1} → statement M
 adze-write-number-spec =

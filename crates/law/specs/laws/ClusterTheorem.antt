@@ -259,7 +259,8 @@ module _ (s : List Op) (sound : (x : Op) → In x s → T (x .over) → x .start
             (sym (writer-is s d (m .0) w) ∙ (second (clusterKey s (x .value)) (clusterKey s (y .value)) (top s) (writer s (x .value)) (writer s (y .value))
             (writer-below s (x .value)) (writer-below s (y .value))
             (omega (arith, tag-is (m .0), tag-is (n .0), other-tag (x .value) (d .nonzero (m .0) w), other-tag (y .value) (d .nonzero (n .0) v))) ∙ writer-is s d (n .0) v));
-        rises = λ {x} {y} m n b. ⊎-elim (λ e. omega (arith, tag-is (m .0), tag-is (n .0), ap (valueTag s) e)) (λ l. omega (arith, tag-is (m .0), tag-is (n .0))) (rise (member m) (member n) b);
+        rises = λ {x} {y} m n b. ⊎-elim (λ e. omega (arith, tag-is (m .0), tag-is (n .0), ap (valueTag s) e)) (λ l. omega (arith, tag-is (m .0), tag-is (n .0)))
+            (rise (member m) (member n) b);
         climbs = λ {x} {y} m n b w. ⊎-elim (λ e. absurd (own (m .0) (n .0) b w e)) (λ l. omega (arith, tag-is (m .0), tag-is (n .0))) (rise (member m) (member n) b);
         reads = λ {x} m w. elim (ℤ-discrete (x .value) (pos 0)) [
           | yes e ↦ inl (tag-is (m .0) ∙ zero-tag (x .value) e, e)

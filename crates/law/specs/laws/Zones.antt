@@ -162,7 +162,8 @@ pub zones-of : (s : List Op) → Zones s (farOf s) (leastOf s) (mostOf s)
 unfolding farOf leastOf mostOf
 zones-of s =
     record {
-      low = λ {x} m t. fewest-low (λ y. T (y .over) × (y .value ≡ x .value)) (with-value (λ y. T (y .over)) (λ y. T-dec (y .over)) (x .value)) (λ y. y .stop) (farOf s) s m (t, refl);
+      low = λ {x} m t. fewest-low (λ y. T (y .over) × (y .value ≡ x .value)) (with-value (λ y. T (y .over)) (λ y. T-dec (y .over)) (x .value)) (λ y. y .stop) (farOf s) s m
+          (t, refl);
       low-at = λ v. ⊎-elim inl (λ (x, m, p, e). inr (x, m, p .0, p .1, e))
           (fewest-at (λ y. T (y .over) × (y .value ≡ v)) (with-value (λ y. T (y .over)) (λ y. T-dec (y .over)) v) (λ y. y .stop) (farOf s) s);
       high = λ {x} m. greatest-high (λ y. Counts y × (y .value ≡ x .value)) (with-value Counts counts-dec (x .value)) (λ y. y .start) s (m .0) (m .1, refl);

@@ -164,7 +164,16 @@ module _ (r : Rack) (ws : List ℕ) (s : soundOf r ≡ true) (f : Sayable r) (l 
       let a : word (writtenOf r ws) 0 ≡ r .sizes .replicas = head-stands r ws s l 0 (omega arith) in
       let b : word (writtenOf r ws) 1 ≡ r .sizes .clients = head-stands r ws s l 1 (omega arith) in
       let c : word (writtenOf r ws) 2 ≡ r .sizes .cells = head-stands r ws s l 2 (omega arith) in
-      rw (a, b, c, again-power, lt-ltb (r .power) 32768 (f .power), lt-ltb (r .sizes .replicas) 256 (omega (arith, z .replicas)), lt-ltb (r .sizes .clients) 256 (omega (arith, z .clients)), lt-ltb (r .sizes .cells) 256 (omega (arith, z .cells)))
+      rw (
+        a,
+        b,
+        c,
+        again-power,
+        lt-ltb (r .power) 32768 (f .power),
+        lt-ltb (r .sizes .replicas) 256 (omega (arith, z .replicas)),
+        lt-ltb (r .sizes .clients) 256 (omega (arith, z .clients)),
+        lt-ltb (r .sizes .cells) 256 (omega (arith, z .cells)),
+      )
 
   again-count : word (writtenOf r ws) 4 ≡ r .count
   again-count = head-stands r ws s l 4 (omega arith)
@@ -190,8 +199,10 @@ module _ (r : Rack) (ws : List ℕ) (s : soundOf r ≡ true) (f : Sayable r) (l 
       let none : Line = record { entry = ReadAsked (record { 0 = 0 }) (record { 0 = 0 }) } in
       let g : (j : ℕ) → Line = λ j. lineIn (writtenOf r ws) (entryPlace j) in
       let c : i < entryCount (writtenOf r ws) = omega (arith, again-counted) in
-      let a = List·getD-append (firsts (entryCount (writtenOf r ws)) g) (drop (entryCount (writtenOf r ws)) (replicate 2048 (record { entry = Done (record { 0 = 0 }) }))) none i (omega (arith, firsts-long (entryCount (writtenOf r ws)) g)) in
-      ap (λ (x : Line). x .entry) (a ∙ firsts-at (entryCount (writtenOf r ws)) i g none c ∙ line-again (writtenOf r ws) (entryPlace i) (entryIn (r .lines) i) (f .entries i h) (row-stands r ws s l i h))
+      let a = List·getD-append (firsts (entryCount (writtenOf r ws)) g) (drop (entryCount (writtenOf r ws)) (replicate 2048 (record { entry = Done (record { 0 = 0 }) }))) none i
+      (omega (arith, firsts-long (entryCount (writtenOf r ws)) g)) in
+      ap (λ (x : Line). x .entry) (a ∙ firsts-at (entryCount (writtenOf r ws)) i g none c
+      ∙ line-again (writtenOf r ws) (entryPlace i) (entryIn (r .lines) i) (f .entries i h) (row-stands r ws s l i h))
 
   party-at : (i : ℕ) → i < r .sizes .clients → partyAt (rackOf (writtenOf r ws)) i ≡ plainParty (partyAt r i)
   unfolding rackOf

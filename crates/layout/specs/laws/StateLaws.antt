@@ -56,7 +56,8 @@ module _ (ws : List ℕ) (s : soundOf (rackOf ws) ≡ true) where
       go true e = e
       go false e =
           let p : partyAt (rackOf ws) i ≡ partyIn ws (partyPlace i) = firsts-at 8 i (λ j. partyIn ws (partyPlace j)) idle (omega (arith, sound .sizes .clients)) in
-          never (sym (stray-party (rackOf ws .sizes) ws (partyPlace i) (sound .sizes .cells) e) ∙ ap (λ (q : Party). workFits (rackOf ws .sizes) (q .work)) (sym p) ∙ sound .parties i h)
+          never (sym (stray-party (rackOf ws .sizes) ws (partyPlace i) (sound .sizes .cells) e) ∙ ap (λ (q : Party). workFits (rackOf ws .sizes) (q .work)) (sym p)
+          ∙ sound .parties i h)
 
   known-slot : (i : ℕ) → i < 256 → slotKnownAt ws (slotPlace i) ≡ true
   unfolding rackOf slotIn

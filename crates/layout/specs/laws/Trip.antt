@@ -155,8 +155,22 @@ full-again ws at m h s =
     let replica : word ws (at + 3) ≡ m .replica .0 = s 3 (omega arith) in
     let cell : word ws (at + 4) ≡ m .cell .0 = s 4 (omega arith) in
     let op : word ws (at + 5) ≡ m .op = s 5 (omega arith) in
-    let rest : Stands ws (at + 6) (bodyWords (m .body)) = λ o l. (let e : at + 6 + o ≡ at + suc (suc (suc (suc (suc (suc o))))) = omega arith in ap (word ws) e ∙ s (suc (suc (suc (suc (suc (suc o)))))) (omega arith)) in
-    rw (mark, kind, client, replica, cell, op, lt-ltb (bodyKind (m .body)) 4 (kind-below (m .body)), lt-ltb (m .op) 65536 (h .op), byte-same (m .client .0) (h .client), byte-same (m .replica .0) (h .replica), byte-same (m .cell .0) (h .cell), body-again ws (at + 6) (m .body) (h .body) rest)
+    let rest : Stands ws (at + 6) (bodyWords (m .body)) = λ o l. (let e : at + 6 + o ≡ at + suc (suc (suc (suc (suc (suc o))))) = omega arith in
+    ap (word ws) e ∙ s (suc (suc (suc (suc (suc (suc o)))))) (omega arith)) in
+    rw (
+      mark,
+      kind,
+      client,
+      replica,
+      cell,
+      op,
+      lt-ltb (bodyKind (m .body)) 4 (kind-below (m .body)),
+      lt-ltb (m .op) 65536 (h .op),
+      byte-same (m .client .0) (h .client),
+      byte-same (m .replica .0) (h .replica),
+      byte-same (m .cell .0) (h .cell),
+      body-again ws (at + 6) (m .body) (h .body) rest,
+    )
 
 pub slot-again : (ws : List ℕ) (at : ℕ) (x : InSlot) → heldSmall x → Stands ws at (slotWords x) → heldOf ws at ≡ x
 unfolding slotWords heldOf
@@ -290,4 +304,14 @@ party-again ws at p h w s =
     let phase : word ws (at + 2) ≡ getD (workWords (p .work)) 0 0 = s 2 (omega (arith, l)) in
     let goal : word ws (at + 4) ≡ getD (workWords (p .work)) 2 0 = s 4 (omega (arith, l)) in
     let rest : Stands ws (at + 2) (workWords (p .work)) = λ o k. (let e : at + 2 + o ≡ at + suc (suc o) = omega arith in ap (word ws) e ∙ s (suc (suc o)) (omega arith)) in
-    rw (work-again ws (at + 2) (p .work) w rest, stopped, op, phase, goal, lt-ltb (flag (p .stopped)) 2 (flag-below (p .stopped)), lt-ltb (p .op) 65536 h, work-known (p .work), flag-again (p .stopped))
+    rw (
+      work-again ws (at + 2) (p .work) w rest,
+      stopped,
+      op,
+      phase,
+      goal,
+      lt-ltb (flag (p .stopped)) 2 (flag-below (p .stopped)),
+      lt-ltb (p .op) 65536 h,
+      work-known (p .work),
+      flag-again (p .stopped),
+    )

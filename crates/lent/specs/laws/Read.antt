@@ -150,7 +150,8 @@ module _ (ws : List ℕ) (s : soundOf (rackOf ws) ≡ true) where
   pub count-is : countIn ws ≡ word ws 4
   unfolding countIn entryCount
   count-is =
-      let k : allBelow (entryCount ws) (λ i. lineKnown ws (entryPlace i)) ≡ true = all-of (entryCount ws) (λ i. lineKnown ws (entryPlace i)) (λ i l. state .entries i (omega arith)) in
+      let k : allBelow (entryCount ws) (λ i. lineKnown ws (entryPlace i)) ≡ true =
+      all-of (entryCount ws) (λ i. lineKnown ws (entryPlace i)) (λ i l. state .entries i (omega arith)) in
       rw (k, le-ltb 2048 (word ws 4) (state .count))
 
   looked-at : entryCount ws ≡ word ws 4

@@ -38,13 +38,15 @@ module _ (s : List ℕ) (bytes : Bytes s) where
   unfolding cellAt
   cell-small at kind client hk hc =
       reading-small at (λ cell next. cond (eqb kind 0) (Are kind client cell 0 next) (lastAt s next kind client cell))
-      (λ cell next h. whichever FourSmall (eqb kind 0) (Are kind client cell 0 next) (lastAt s next kind client cell) (hk, (hc, (h, omega arith))) (last-small next kind client cell hk hc h))
+      (λ cell next h. whichever FourSmall (eqb kind 0) (Are kind client cell 0 next) (lastAt s next kind client cell) (hk, (hc, (h, omega arith)))
+      (last-small next kind client cell hk hc h))
 
   fields-small : (at kind : ℕ) → kind < 2 ^ 32 → FourSmall (fieldsAt s at kind)
   unfolding fieldsAt
   fields-small at kind hk =
       reading-small at (λ field next. cond (ltb 1 kind) (Are kind field 0 0 next) (cellAt s next kind field))
-      (λ field next h. whichever FourSmall (ltb 1 kind) (Are kind field 0 0 next) (cellAt s next kind field) (hk, (h, (omega arith, omega arith))) (cell-small next kind field hk h))
+      (λ field next h. whichever FourSmall (ltb 1 kind) (Are kind field 0 0 next) (cellAt s next kind field) (hk, (h, (omega arith, omega arith)))
+      (cell-small next kind field hk h))
 
   event-four : (at : ℕ) → FourSmall (eventAt s at)
   unfolding eventAt

@@ -8,10 +8,12 @@ use Rattle.text.specs.laws.OnlyOne.{only-one}
 use Rattle.rack.specs.declared.Ran.{Ran}
 use Rattle.lines.specs.Lines.{ranText, faultLine}
 
-pub one-ran : (before : List ℕ) (at : ℕ) (q : Ran) {r s : ℕ} {after other : List ℕ} → Printed before at (ranText q) r after → Printed before at (ranText q) s other → (r ≡ s) × (after ≡ other)
+pub one-ran : (before : List ℕ) (at : ℕ) (q : Ran) {r s : ℕ} {after other : List ℕ} → Printed before at (ranText q) r after → Printed before at (ranText q) s other
+    → (r ≡ s) × (after ≡ other)
 one-ran before at q a b = only-one before at (ranText q) a b
 
-pub one-fault : (before : List ℕ) (at refusal byte : ℕ) {r s : ℕ} {after other : List ℕ} → Printed before at (faultLine refusal byte) r after → Printed before at (faultLine refusal byte) s other → (r ≡ s) × (after ≡ other)
+pub one-fault : (before : List ℕ) (at refusal byte : ℕ) {r s : ℕ} {after other : List ℕ} → Printed before at (faultLine refusal byte) r after
+    → Printed before at (faultLine refusal byte) s other → (r ≡ s) × (after ≡ other)
 one-fault before at refusal byte a b = only-one before at (faultLine refusal byte) a b
 
 -- no line is left unsaid, and none is said where there is no room

@@ -75,7 +75,11 @@ module _ (s : Sight) where
 
     copy-does : It (copyOf s m)
     unfolding copyOf
-    copy-does = rests (record { still = record { op = refl; work = refl; note = refl }; pair = refl; sends = copy m (record { here = refl; client = refl; body = refl }) refl refl })
+    copy-does = rests (record {
+      still = record { op = refl; work = refl; note = refl };
+      pair = refl;
+      sends = copy m (record { here = refl; client = refl; body = refl }) refl refl;
+    })
 
     ask-does : m .body ≡ Ask → It (askOf s m)
     unfolding askOf

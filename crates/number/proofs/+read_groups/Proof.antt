@@ -105,7 +105,9 @@ read-groups-read-groups-requires t c κs = search needs
 m-below : (t : ℕ) (c : read-groups-lts.Else5 (read-groups-below t, read-groups.Post) (read-groups-at t) read-groups.Post) → c .before .before .m .given .0 .0 < 2 ^ 25
 m-below t c =
     let a = c .before .before .before .before .before .before .before .before .before .before .args in
-    rest-below (a .s .now) (a .left - 1) (a .at + 1) (c .before .before .m .given .0 .0) (c .before .before .m .given .0 .1 .0) (λ i. c .before .before .before .before .before .before .before .shared-slice-known2 .given i .fits) (omega arith) (sym (c .before .before .before .before .read-groups .ensures) ∙ c .before .before .m .given .1)
+    rest-below (a .s .now) (a .left - 1) (a .at + 1) (c .before .before .m .given .0 .0) (c .before .before .m .given .0 .1 .0)
+    (λ i. c .before .before .before .before .before .before .before .shared-slice-known2 .given i .fits) (omega arith)
+    (sym (c .before .before .before .before .read-groups .ensures) ∙ c .before .before .m .given .1)
 
 read-groups-enum-known-k : (t : ℕ) → read-groups-lts.Need-enum-known-k (
   read-groups-below t,
@@ -123,7 +125,11 @@ read-groups-cast-t23 : (t : ℕ) → read-groups-lts.Need-cast-t23 (
   read-groups-below t,
   read-groups.Post,
 ) (read-groups-at t) read-groups.Post
-read-groups-cast-t23 t c = omega (arith, c .before .before .before .before .before .before .before .shared-slice-known2 .given (c .before .before .before .before .before .before .before .before .before .before .args .at))
+read-groups-cast-t23 t c = omega (
+  arith,
+  c .before .before .before .before .before .before .before .shared-slice-known2 .given
+      (c .before .before .before .before .before .before .before .before .before .before .args .at),
+)
 
 read-groups-mul-t24 : (t : ℕ) → read-groups-lts.Need-mul-t24 (
   read-groups-below t,
@@ -135,7 +141,12 @@ read-groups-add-t25 : (t : ℕ) → read-groups-lts.Need-add-t25 (
   read-groups-below t,
   read-groups.Post,
 ) (read-groups-at t) read-groups.Post
-read-groups-add-t25 t c = omega (arith, m-below t c, c .before .before .before .before .before .before .before .shared-slice-known2 .given (c .before .before .before .before .before .before .before .before .before .before .args .at))
+read-groups-add-t25 t c = omega (
+  arith,
+  m-below t c,
+  c .before .before .before .before .before .before .before .shared-slice-known2 .given
+      (c .before .before .before .before .before .before .before .before .before .before .args .at),
+)
 
 read-groups-returns-5 : (t : ℕ) → read-groups-lts.Need-returns-5 (
   read-groups-below t,
@@ -143,7 +154,8 @@ read-groups-returns-5 : (t : ℕ) → read-groups-lts.Need-returns-5 (
 ) (read-groups-at t) read-groups.Post
 unfolding push
 read-groups-returns-5 t c = let a = c .before .before .before .before .before .before .before .before .before .args in
-    sym (high (a .s .now) (a .at) (a .left) _ (c .before .before .before .before .before .before .before .if1 .left) (c .before .before .before .before .before .if2 .left) (c .before .before .before .before .if4 .left)
+    sym (high (a .s .now) (a .at) (a .left) _ (c .before .before .before .before .before .before .before .if1 .left) (c .before .before .before .before .before .if2 .left)
+    (c .before .before .before .before .if4 .left)
     (sym (c .before .before .before .read-groups .ensures) ∙ c .before .k .given .1))
 
 read-groups-returns-6 : (t : ℕ) → read-groups-lts.Need-returns-6 (
@@ -151,7 +163,8 @@ read-groups-returns-6 : (t : ℕ) → read-groups-lts.Need-returns-6 (
   read-groups.Post,
 ) (read-groups-at t) read-groups.Post
 read-groups-returns-6 t c = let a = c .before .before .before .before .before .before .before .before .before .before .args in
-    sym (high (a .s .now) (a .at) (a .left) _ (c .before .before .before .before .before .before .before .before .if1 .left) (c .before .before .before .before .before .before .if2 .left) (c .before .before .before .before .before .if4 .left)
+    sym (high (a .s .now) (a .at) (a .left) _ (c .before .before .before .before .before .before .before .before .if1 .left)
+    (c .before .before .before .before .before .before .if2 .left) (c .before .before .before .before .before .if4 .left)
     (sym (c .before .before .before .before .read-groups .ensures) ∙ c .before .before .m .given .1)
     ∙ push-zero _ _ _ (c .if5 .taken))
 
@@ -160,7 +173,8 @@ read-groups-returns-7 : (t : ℕ) → read-groups-lts.Need-returns-7 (
   read-groups.Post,
 ) (read-groups-at t) read-groups.Post
 read-groups-returns-7 t c = let a = c .before .before .before .before .before .before .before .before .before .before .args in
-    sym (high (a .s .now) (a .at) (a .left) _ (c .before .before .before .before .before .before .before .before .if1 .left) (c .before .before .before .before .before .before .if2 .left) (c .before .before .before .before .before .if4 .left)
+    sym (high (a .s .now) (a .at) (a .left) _ (c .before .before .before .before .before .before .before .before .if1 .left)
+    (c .before .before .before .before .before .before .if2 .left) (c .before .before .before .before .before .if4 .left)
     (sym (c .before .before .before .before .read-groups .ensures) ∙ c .before .before .m .given .1)
     ∙ push-more _ _ _ (c .if5 .left))
 

@@ -37,7 +37,8 @@ loop-less c = search needs
 
 loop-again : tie.Need-loop-again Inv-loop μ-loop
 loop-again c = let w = c .before .loop .inv in
-    step (c .before .before .args .buf .now) (c .before .before .args .at) (numberBytes (c .before .before .args .n)) (c .before .loop .buf) (c .before .loop .i) (c .before .loop .m) (w .f) (c .loop-test .taken) (w .small) (w .room) (w .long) (w .place) (w .same)
+    step (c .before .before .args .buf .now) (c .before .before .args .at) (numberBytes (c .before .before .args .n)) (c .before .loop .buf) (c .before .loop .i)
+    (c .before .loop .m) (w .f) (c .loop-test .taken) (w .small) (w .room) (w .long) (w .place) (w .same)
 
 cast-buf-2 : tie.Need-cast-buf-2 Inv-loop μ-loop
 cast-buf-2 c = search needs

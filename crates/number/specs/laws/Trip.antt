@@ -19,7 +19,8 @@ use Rattle.number.specs.Below.{Bytes}
 -- ---- what was written is read
 
 -- a byte of 128 or more before the bytes of a number m that is not 0
-longer-read : (f at b m n next k : ℕ) (bs : List ℕ) → readGo f (at + 1) bs ≡ Is m next → 128 ≤ b → (m ≡ 0 → ⊥) → b % 128 + 128 * m ≡ n → next ≡ k → readGo (suc f) at (b ∷ bs) ≡ Is n k
+longer-read : (f at b m n next k : ℕ) (bs : List ℕ) → readGo f (at + 1) bs ≡ Is m next → 128 ≤ b → (m ≡ 0 → ⊥) → b % 128 + 128 * m ≡ n → next ≡ k
+    → readGo (suc f) at (b ∷ bs) ≡ Is n k
 unfolding readGo
 longer-read f at b m n next k bs e h z p q = simp (le-ltb b 128 h, e, push-more b m next z) (ap₂ Is p q)
 
@@ -34,7 +35,8 @@ unfolding top
 there zero n at more h = rw (groups-small zero n (omega arith)) (last-read zero at n more (omega arith) h)
 there (suc f) n at more h = go (there f (n / 128) (at + 1) more (omega arith)) (ltb n 128) refl
   where
-    go : readGo f (at + 1) (groupsOf f (n / 128) ++ more) ≡ Is (n / 128) (at + 1 + length (groupsOf f (n / 128))) → (t : Bool) → ltb n 128 ≡ t → readGo (suc f) at (groupsOf (suc f) n ++ more) ≡ Is n (at + length (groupsOf (suc f) n))
+    go : readGo f (at + 1) (groupsOf f (n / 128) ++ more) ≡ Is (n / 128) (at + 1 + length (groupsOf f (n / 128))) → (t : Bool) → ltb n 128 ≡ t
+        → readGo (suc f) at (groupsOf (suc f) n ++ more) ≡ Is n (at + length (groupsOf (suc f) n))
     go ih true e =
         let small : n < 128 = ltb-true n 128 e in
         rw (groups-small (suc f) n small) (last-read (suc f) at n more small h)
@@ -76,7 +78,8 @@ unfolding top
 fifth at b n next bs true e p = never 23 n next p
 fifth at b n next bs false e p = last zero at b n next bs (omega (arith, ltb-false 15 b e)) (omega (arith, ltb-false 15 b e)) p
 
-longer : (f at b n next m k : ℕ) (bs : List ℕ) → 128 ≤ b → b < 256 → WasWritten f (at + 1) m k bs → (t : Bool) → eqb m 0 ≡ t → cond t (Refused 22) (Is (b % 128 + 128 * m) k) ≡ Is n next → WasWritten (suc f) at n next (b ∷ bs)
+longer : (f at b n next m k : ℕ) (bs : List ℕ) → 128 ≤ b → b < 256 → WasWritten f (at + 1) m k bs → (t : Bool) → eqb m 0 ≡ t
+    → cond t (Refused 22) (Is (b % 128 + 128 * m) k) ≡ Is n next → WasWritten (suc f) at n next (b ∷ bs)
 unfolding groupsOf top
 longer f at b n next m k bs lo hi w true e p = never 22 n next p
 longer f at b n next m k bs lo hi w false e p =
@@ -86,7 +89,12 @@ longer f at b n next m k bs lo hi w false e p =
     let big : 128 ≤ n = omega arith in
     let low : 128 + n % 128 ≡ b = omega arith in
     let high : n / 128 ≡ m = omega arith in
-    record { more = w .more; bytes = simp (le-ltb n 128 big, low, high) (ap (λ (l : List ℕ). b ∷ l) (w .bytes)); place = simp (le-ltb n 128 big, high) (omega (arith, w .place)); below = omega (arith, w .below) }
+    record {
+      more = w .more;
+      bytes = simp (le-ltb n 128 big, low, high) (ap (λ (l : List ℕ). b ∷ l) (w .bytes));
+      place = simp (le-ltb n 128 big, high) (omega (arith, w .place));
+      below = omega (arith, w .below);
+    }
 
 back : (f at n next : ℕ) (bs : List ℕ) → Bytes bs → readGo f at bs ≡ Is n next → WasWritten f at n next bs
 unfolding readGo push top
@@ -137,4 +145,5 @@ drop-sets d at xs h =
 
 -- a number that was put is read where it was put
 pub put-reads : (d : List ℕ) (at n : ℕ) → n < 2 ^ 32 → at + length (numberBytes n) ≤ length d → numberAt (putBytes d at (numberBytes n)) at ≡ Is n (at + length (numberBytes n))
-put-reads d at n h g = ap (λ (l : List ℕ). numberAt l at) (put-writes d at (numberBytes n) g) ∙ reads-written (sets d at (numberBytes n)) at n (drop (at + length (numberBytes n)) d) h (drop-sets d at (numberBytes n) g)
+put-reads d at n h g = ap (λ (l : List ℕ). numberAt l at) (put-writes d at (numberBytes n) g)
+    ∙ reads-written (sets d at (numberBytes n)) at n (drop (at + length (numberBytes n)) d) h (drop-sets d at (numberBytes n) g)

@@ -16,7 +16,13 @@ mul-opened : tie.Need-mul-opened
 mul-opened c = search needs
 
 element-write-opened : tie.Need-element-write-opened
-element-write-opened c = rw (c .before .before .before .row-of .ensures) (omega (arith, row-client (c .before .before .before .before .before .before .args .cells .now) (c .before .before .before .before .before .before .args .opened .now) (c .before .before .before .before .before .before .args .n) (c .before .before .before .before .before .before .args .e) (c .before .before .before .before .before .before .pre .1)))
+element-write-opened c = rw (c .before .before .before .row-of .ensures)
+    (omega (
+      arith,
+      row-client (c .before .before .before .before .before .before .args .cells .now) (c .before .before .before .before .before .before .args .opened .now)
+          (c .before .before .before .before .before .before .args .n) (c .before .before .before .before .before .before .args .e)
+          (c .before .before .before .before .before .before .pre .1),
+    ))
 
 element-write-kinds : tie.Need-element-write-kinds
 element-write-kinds c = search needs

@@ -34,7 +34,8 @@ enum-known-k : tie.Need-enum-known-k Inv-loop μ-loop
 enum-known-k c = search needs
 
 returns-2 : tie.Need-returns-2 Inv-loop μ-loop
-returns-2 c = pairs-unread (c .before .before .before .before .before .before .loop .inv) _ (lt-ltb _ _ (c .before .before .before .before .before .loop-test .taken)) (c .before .before .before .before .if1 .left) (sym (c .before .before .before .entry-at .ensures) ∙ c .before .k .given .1)
+returns-2 c = pairs-unread (c .before .before .before .before .before .before .loop .inv) _ (lt-ltb _ _ (c .before .before .before .before .before .loop-test .taken))
+    (c .before .before .before .before .if1 .left) (sym (c .before .before .before .entry-at .ensures) ∙ c .before .k .given .1)
 
 enum-known-e : tie.Need-enum-known-e Inv-loop μ-loop
 enum-known-e c = search needs
@@ -43,10 +44,19 @@ fault-requires : tie.Need-fault-requires Inv-loop μ-loop
 fault-requires c κs = search needs
 
 returns-3 : tie.Need-returns-3 Inv-loop μ-loop
-returns-3 c = pairs-misplaced (c .before .before .before .before .before .before .before .before .loop .inv) _ _ _ (lt-ltb _ _ (c .before .before .before .before .before .before .before .loop-test .taken)) (c .before .before .before .before .before .before .if1 .left) (sym (c .before .before .before .before .before .entry-at .ensures) ∙ c .before .before .before .e .given .1) (c .before .fault .ensures) (c .if2 .taken)
+returns-3 c = pairs-misplaced (c .before .before .before .before .before .before .before .before .loop .inv) _ _ _
+    (lt-ltb _ _ (c .before .before .before .before .before .before .before .loop-test .taken)) (c .before .before .before .before .before .before .if1 .left)
+    (sym (c .before .before .before .before .before .entry-at .ensures) ∙ c .before .before .before .e .given .1) (c .before .fault .ensures) (c .if2 .taken)
 
 note-entry-requires : tie.Need-note-entry-requires Inv-loop μ-loop
-note-entry-requires c κs = (pairs-few (c .before .before .before .before .before .before .before .before .before .before .before .before .before .loop .inv) (c .before .before .before .before .before .before .before .before .before .before .before .if1 .left), written-entry _ _ _ _ (λ i. c .before .before .before .before .before .before .before .before .before .before .before .before .before .before .before .before .before .before .before .before .shared-slice-known .given i .fits) (sym (c .before .before .before .before .before .before .before .before .before .before .entry-at .ensures) ∙ c .before .before .before .before .before .before .before .before .e .given .1) .range, c .before .before .before .before .before .before .before .before .before .before .before .before .before .loop .inv .low)
+note-entry-requires c κs = (
+  pairs-few (c .before .before .before .before .before .before .before .before .before .before .before .before .before .loop .inv)
+      (c .before .before .before .before .before .before .before .before .before .before .before .if1 .left),
+  written-entry _ _ _ _ (λ i. c .before .before .before .before .before .before .before .before .before .before .before .before .before .before .before .before .before .before
+      .before .before .shared-slice-known .given i .fits) (sym (c .before .before .before .before .before .before .before .before .before .before .entry-at .ensures)
+      ∙ c .before .before .before .before .before .before .before .before .e .given .1) .range,
+  c .before .before .before .before .before .before .before .before .before .before .before .before .before .loop .inv .low,
+)
 
 after-requires : tie.Need-after-requires Inv-loop μ-loop
 after-requires c κs = search needs
@@ -58,7 +68,15 @@ loop-less : tie.Need-loop-less Inv-loop μ-loop
 loop-less c = search needs
 
 loop-again : tie.Need-loop-again Inv-loop μ-loop
-loop-again c = pairs-on (c .before .before .before .before .before .before .before .before .before .before .before .before .before .before .before .loop .inv) _ _ (λ i. c .before .before .before .before .before .before .before .before .before .before .before .before .before .before .before .before .before .before .before .before .before .before .shared-slice-known .given i .fits) (lt-ltb _ _ (c .before .before .before .before .before .before .before .before .before .before .before .before .before .before .loop-test .taken)) (c .before .before .before .before .before .before .before .before .before .before .before .before .before .if1 .left) (sym (c .before .before .before .before .before .before .before .before .before .before .before .before .entry-at .ensures) ∙ c .before .before .before .before .before .before .before .before .before .before .e .given .1) (sym (c .before .before .before .before .before .before .before .before .fault .ensures) ∙ c .before .before .before .before .before .before .before .if2 .left) (c .before .note-entry .ensures) (c .after .ensures)
+loop-again c = pairs-on (c .before .before .before .before .before .before .before .before .before .before .before .before .before .before .before .loop .inv) _ _
+    (λ i. c .before .before .before .before .before .before .before .before .before .before .before .before .before .before .before .before .before .before .before .before .before
+    .before .shared-slice-known .given i .fits)
+    (lt-ltb _ _ (c .before .before .before .before .before .before .before .before .before .before .before .before .before .before .loop-test .taken))
+    (c .before .before .before .before .before .before .before .before .before .before .before .before .before .if1 .left)
+    (sym (c .before .before .before .before .before .before .before .before .before .before .before .before .entry-at .ensures)
+    ∙ c .before .before .before .before .before .before .before .before .before .before .e .given .1)
+    (sym (c .before .before .before .before .before .before .before .before .fault .ensures)
+    ∙ c .before .before .before .before .before .before .before .if2 .left) (c .before .note-entry .ensures) (c .after .ensures)
 
 returns-4 : tie.Need-returns-4 Inv-loop μ-loop
 returns-4 c = pairs-end (c .before .loop .inv) (le-ltb _ _ (c .loop-test .left))

@@ -39,10 +39,18 @@ returns : tie.Need-returns
 returns c = rw (c .before .before .e .given .1) (c .start-row .ensures)
 
 returns-2 : tie.Need-returns-2
-returns-2 c = simp (c .before .before .before .e2 .given .1, alternating-of-bits (c .before .before .before .e2 .given .0 .1 .1 .0) (c .before .alternating .result) (search needs) (c .before .alternating .ensures)) (c .start-row2 .ensures)
+returns-2 c = simp (
+  c .before .before .before .e2 .given .1,
+  alternating-of-bits (c .before .before .before .e2 .given .0 .1 .1 .0) (c .before .alternating .result) (search needs)
+      (c .before .alternating .ensures),
+) (c .start-row2 .ensures)
 
 returns-3 : tie.Need-returns-3
-returns-3 c = simp (c .before .before .before .e3 .given .1, alternating-of-bits (c .before .before .before .e3 .given .0 .1 .0) (c .before .alternating2 .result) (search needs) (c .before .alternating2 .ensures)) (c .end-row .ensures)
+returns-3 c = simp (
+  c .before .before .before .e3 .given .1,
+  alternating-of-bits (c .before .before .before .e3 .given .0 .1 .0) (c .before .alternating2 .result) (search needs)
+      (c .before .alternating2 .ensures),
+) (c .end-row .ensures)
 
 returns-4 : tie.Need-returns-4
 returns-4 c = rw (c .before .before .e4 .given .1) (c .end-row2 .ensures)

@@ -134,7 +134,8 @@ module _ (kinds cells values starts : List ℕ) (n : ℕ) (ops : List Op) (long 
     paired-ends =
         record {
           started = λ x r. let b = mem-of-map (ending n k v) ops r in
-              ⊎-elim (λ f. let e : x ≡ closed = sym (b .2) ∙ f in rw e closed-started) (λ f. let e : x ≡ b .0 = sym (b .2) ∙ f in rw e (started-still kind cell value start (b .0) (b .1))) (stays (b .0) (b .1));
+              ⊎-elim (λ f. let e : x ≡ closed = sym (b .2) ∙ f in rw e closed-started) (λ f. let e : x ≡ b .0 = sym (b .2) ∙ f in
+              rw e (started-still kind cell value start (b .0) (b .1))) (stays (b .0) (b .1));
           ended = λ x r t. let b = mem-of-map (ending n k v) ops r in
               ⊎-elim (λ f. let e : x ≡ closed = sym (b .2) ∙ f in rw e (omega arith, ends-here))
               (λ f. let e : x ≡ b .0 = sym (b .2) ∙ f in let u : T (b .0 .over) = rw e at t in rw e (ended-still kind cell value start (b .0) (b .1) u)) (stays (b .0) (b .1));
@@ -176,7 +177,8 @@ module _ (kinds cells values starts opened : List ℕ) (n : ℕ) (ops : List Op)
       ap (λ (j : ℕ). getD cells j 0) s ∙ old .started o m .1 .cell
 
   pub paired-next : Paired ops n kinds cells values starts → (e : Entry) → InRange e → faultAfter st e ≡ 0
-      → Paired (note n e ops) (n + 1) (set kinds n (noteRow cells opened n e .kind)) (set cells n (noteRow cells opened n e .cell .0)) (set values n (noteRow cells opened n e .value))
+      → Paired (note n e ops) (n + 1) (set kinds n (noteRow cells opened n e .kind)) (set cells n (noteRow cells opened n e .cell .0))
+      (set values n (noteRow cells opened n e .value))
       (set starts n (noteRow cells opened n e .start))
   unfolding note faultAfter
   paired-next old (ReadAsked client cell) r f =
@@ -219,7 +221,8 @@ module _ (kinds cells values starts opened : List ℕ) (n : ℕ) (ops : List Op)
   open-ends : (k : ℕ) (v : ℤ → ℤ) (start : ℕ) → OpenAt (map (ending n k v) ops) (set opened k start)
   open-ends k v start x m o = let b = still-open n k v ops x m o in getD-set-other opened k (x .client) start 0 (b .1) ∙ by x (b .0) o
 
-  pub open-next : length opened ≡ 8 → (e : Entry) → InRange e → faultAfter st e ≡ 0 → OpenAt (note n e ops) (set opened (noteRow cells opened n e .client .0) (noteRow cells opened n e .start))
+  pub open-next : length opened ≡ 8 → (e : Entry) → InRange e → faultAfter st e ≡ 0
+      → OpenAt (note n e ops) (set opened (noteRow cells opened n e .client .0) (noteRow cells opened n e .start))
   unfolding note
   open-next eight (ReadAsked client cell) r f = let a = may-step st (ReadAsked client cell) r f in open-asks eight (client .0) (cell .0) false (pos 0) (a .0) (a .2)
   open-next eight (WriteAsked client cell v) r f = let a = may-step st (WriteAsked client cell v) r f in open-asks eight (client .0) (cell .0) true v (a .0) (a .2)

@@ -46,7 +46,12 @@ returns-3 c = rw (c .used-up2 .ensures, c .before .enum-told2 .given .1)
 
 returns-4 : tie.Need-returns-4
 unfolding keptIn
-returns-4 c = rw (c .kept-counts .ensures, c .before .with .ensures, c .before .before .before .before .before .before .work .given .1, sym (c .before .before .before .has .ensures) ∙ c .before .before .if1 .left)
+returns-4 c = rw (
+  c .kept-counts .ensures,
+  c .before .with .ensures,
+  c .before .before .before .before .before .before .work .given .1,
+  sym (c .before .before .before .has .ensures) ∙ c .before .before .if1 .left,
+)
 
 pub kept-in-spec : {M : Type 1} → statement M
 kept-in-spec =

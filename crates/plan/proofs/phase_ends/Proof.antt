@@ -32,7 +32,8 @@ returns-2 c = rw (c .keeps .ensures, c .before .enum-told .given .1)
 
 returns-3 : tie.Need-returns-3
 unfolding phaseEnds
-returns-3 c = let f = c .before .before .before .before .known-told .given .0 .1 in rw (c .keeps2 .ensures, toZ-ofZ {w = w32} (sfits-of f), c .before .before .before .before .before .goal .given .1, ne-eqb _ _ (c .before .before .if1 .left))
+returns-3 c = let f = c .before .before .before .before .known-told .given .0 .1 in
+    rw (c .keeps2 .ensures, toZ-ofZ {w = w32} (sfits-of f), c .before .before .before .before .before .goal .given .1, ne-eqb _ _ (c .before .before .if1 .left))
 
 pub phase-ends-spec : {M : Type 1} → statement M
 phase-ends-spec =

@@ -27,7 +27,13 @@ planned-requires c κs = search needs
 
 returns : tie.Need-returns
 unfolding started
-returns c = rw (c .planned .ensures, c .before .every .ensures, c .before .before .message-of .ensures, c .before .before .before .at-work .ensures, c .before .before .before .before .fresh-pair .ensures)
+returns c = rw (
+  c .planned .ensures,
+  c .before .every .ensures,
+  c .before .before .message-of .ensures,
+  c .before .before .before .at-work .ensures,
+  c .before .before .before .before .fresh-pair .ensures,
+)
 
 pub started-spec : {M : Type 1} → statement M
 started-spec =

@@ -26,7 +26,13 @@ tell-counts-requires c κs = search needs
 
 returns-2 : tie.Need-returns-2
 unfolding tellIn
-returns-2 c = rw (c .tell-counts .ensures, c .before .hold .ensures, c .before .before .with .ensures, sym (c .before .before .before .before .has .ensures) ∙ c .before .before .before .if1 .left)
+returns-2 c = rw (
+  c .tell-counts .ensures,
+  c .before .hold .ensures,
+  c .before .before .with .ensures,
+  sym (c .before .before .before .before .has .ensures)
+      ∙ c .before .before .before .if1 .left,
+)
 
 pub tell-asking-spec : {M : Type 1} → statement M
 tell-asking-spec =

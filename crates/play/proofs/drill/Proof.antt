@@ -28,13 +28,15 @@ same-length : tie.Need-same-length
 same-length c = search needs
 
 returns : tie.Need-returns
-returns c = same-text (fault-text _ _ _ (sym (c .before .before .before .before .before .before .before .check .ensures) ∙ c .before .before .before .before .before .refusal .given .1)) (c .before .before .put-fault .ensures)
+returns c = same-text (fault-text _ _ _ (sym (c .before .before .before .before .before .before .before .check .ensures)
+    ∙ c .before .before .before .before .before .refusal .given .1)) (c .before .before .put-fault .ensures)
 
 same-length-2 : tie.Need-same-length-2
 same-length-2 c = search needs
 
 returns-2 : tie.Need-returns-2
-returns-2 c = same-text (run-text _ _ _ _ _ _ _ (sym (c .before .before .before .before .before .before .before .before .check .ensures) ∙ c .before .before .before .before .before .before .replicas .given .1) (c .before .before .before .play .ensures)) (c .before .before .put-ran .ensures)
+returns-2 c = same-text (run-text _ _ _ _ _ _ _ (sym (c .before .before .before .before .before .before .before .before .check .ensures)
+    ∙ c .before .before .before .before .before .before .replicas .given .1) (c .before .before .before .play .ensures)) (c .before .before .put-ran .ensures)
 
 pub drill-spec : {M : Type 1} → statement M
 drill-spec =

@@ -29,7 +29,8 @@ ran-requires : tie.Need-ran-requires Inv-loop μ-loop
 ran-requires c κs = search needs
 
 returns : tie.Need-returns Inv-loop μ-loop
-returns c = c .ran .ensures ∙ none-found _ _ _ _ _ _ (c .before .before .before .before .before .before .before .loop .inv .1) _ _ _ (c .before .before .before .before .before .before .before .loop .inv .0) (c .before .before .before .before .fill .ensures) (c .before .if1 .taken)
+returns c = c .ran .ensures ∙ none-found _ _ _ _ _ _ (c .before .before .before .before .before .before .before .loop .inv .1) _ _ _
+    (c .before .before .before .before .before .before .before .loop .inv .0) (c .before .before .before .before .fill .ensures) (c .before .if1 .taken)
 
 sub-least : tie.Need-sub-least Inv-loop μ-loop
 sub-least c = search needs
@@ -44,19 +45,41 @@ run-requires : tie.Need-run-requires Inv-loop μ-loop
 run-requires c κs = search needs
 
 add-done : tie.Need-add-done Inv-loop μ-loop
-add-done c = omega (arith, few-done _ _ _ _ (c .before .before .run .ensures), c .before .before .before .before .least .ensures, c .before .before .before .before .before .before .before .before .before .before .loop-test .taken)
+add-done c = omega (
+  arith,
+  few-done _ _ _ _ (c .before .before .run .ensures),
+  c .before .before .before .before .least .ensures,
+  c .before .before .before .before .before .before .before .before .before .before .loop-test .taken,
+)
 
 ran-requires-2 : tie.Need-ran-requires-2 Inv-loop μ-loop
 ran-requires-2 c κs = search needs
 
 returns-2 : tie.Need-returns-2 Inv-loop μ-loop
-returns-2 c = c .ran2 .ensures ∙ stopped _ _ _ _ _ _ (c .before .before .before .before .before .before .before .before .before .before .before .before .before .before .loop .inv .1) _ _ _ (c .before .before .before .before .before .before .before .before .before .before .before .before .before .before .loop .inv .0) (c .before .before .before .before .before .before .before .before .before .before .before .fill .ensures) _ (c .before .before .before .before .before .before .before .least .ensures) _ (c .before .before .before .before .before .run .ensures) (c .before .if2 .taken)
+returns-2 c = c .ran2 .ensures ∙ stopped _ _ _ _ _ _
+    (c .before .before .before .before .before .before .before .before .before .before .before .before .before .before .loop .inv .1) _ _ _
+    (c .before .before .before .before .before .before .before .before .before .before .before .before .before .before .loop .inv .0)
+    (c .before .before .before .before .before .before .before .before .before .before .before .fill .ensures) _
+    (c .before .before .before .before .before .before .before .least .ensures) _ (c .before .before .before .before .before .run .ensures) (c .before .if2 .taken)
 
 loop-less : tie.Need-loop-less Inv-loop μ-loop
-loop-less c = omega (arith, c .before .before .before .before .before .before .least .ensures, c .before .before .before .before .before .before .before .if1 .left, c .if2 .left, c .before .before .before .before .before .before .before .before .before .before .before .before .loop-test .taken)
+loop-less c = omega (
+  arith,
+  c .before .before .before .before .before .before .least .ensures,
+  c .before .before .before .before .before .before .before .if1 .left,
+  c .if2 .left,
+  c .before .before .before .before .before .before .before .before .before .before .before .before .loop-test .taken,
+)
 
 loop-again : tie.Need-loop-again Inv-loop μ-loop
-loop-again c = (still-long (c .before .before .before .before .before .before .before .before .before .before .fill .ensures) (c .before .before .before .before .before .before .before .before .before .before .before .before .before .loop .inv .0), went-on _ _ _ _ _ _ (c .before .before .before .before .before .before .before .before .before .before .before .before .before .loop .inv .1) _ _ _ (c .before .before .before .before .before .before .before .before .before .before .before .before .before .loop .inv .0) (c .before .before .before .before .before .before .before .before .before .before .fill .ensures) _ (c .before .before .before .before .before .before .least .ensures) _ (c .before .before .before .before .run .ensures) (c .if2 .left))
+loop-again c = (
+  still-long (c .before .before .before .before .before .before .before .before .before .before .fill .ensures)
+      (c .before .before .before .before .before .before .before .before .before .before .before .before .before .loop .inv .0),
+  went-on _ _ _ _ _ _ (c .before .before .before .before .before .before .before .before .before .before .before .before .before .loop .inv .1) _ _ _
+      (c .before .before .before .before .before .before .before .before .before .before .before .before .before .loop .inv .0)
+      (c .before .before .before .before .before .before .before .before .before .before .fill .ensures) _ (c .before .before .before .before .before .before .least .ensures) _
+      (c .before .before .before .before .run .ensures) (c .if2 .left),
+)
 
 ran-requires-3 : tie.Need-ran-requires-3 Inv-loop μ-loop
 ran-requires-3 c κs = search needs

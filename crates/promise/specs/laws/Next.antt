@@ -114,7 +114,8 @@ module _ (r : Rack) (e : Event) (p : Plan) (v : View) (name : ℕ → ℕ → �
   old-true : (m : Message) → OnWire S v name (opOf r) m → True m
   old-true m (h, k) = (omega (arith, rises (m .client .0) (ℕ-discrete (m .client .0) client)), n .old m h k)
 
-  new-true : (k : ℕ) → In k (membersOf (r .sizes .replicas) (p .to)) → True (messageOf (p .message .client) (record { 0 = k }) (p .message .cell) (p .message .op) (p .message .body))
+  new-true : (k : ℕ) → In k (membersOf (r .sizes .replicas) (p .to))
+      → True (messageOf (p .message .client) (record { 0 = k }) (p .message .cell) (p .message .op) (p .message .body))
   new-true k i =
       let s = n .new k i in
       let a : partyAfter (p .message .client .0) .op ≡ p .party .op = ap (λ (c : ℕ). partyAfter c .op) (s .client) ∙ ap (λ (x : Party). x .op) this-party in

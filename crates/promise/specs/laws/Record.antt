@@ -136,7 +136,8 @@ module _ (f g : ℕ → Op) (o : ℕ) (other : (i : ℕ) → i ≢ o → g i ≡
       after =
           record {
             begun = λ x m. ⊎-elim (λ r. rw (other (x .number) (apart x r)) (b .begun x r)) (λ q. rw q phase) (in-next s m);
-            known = λ x m. ⊎-elim (λ r. rw (other (x .number) (apart x r)) (b .known x r)) (λ q. q ∙ (ap (shown o) (sym e) ∙ ap (λ (y : Operation). shown (y .number) (g (y .number))) (sym q)))
+            known = λ x m. ⊎-elim (λ r. rw (other (x .number) (apart x r)) (b .known x r)) (λ q. q
+                ∙ (ap (shown o) (sym e) ∙ ap (λ (y : Operation). shown (y .number) (g (y .number))) (sym q)))
                 (in-next s m);
             every = λ i h. at i (ℕ-discrete i o) h;
           }

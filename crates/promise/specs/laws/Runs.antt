@@ -127,7 +127,11 @@ fresh-tied replicas clients cells =
       view = fresh;
       name = λ c k. 0;
       tie = record {
-        long = record { parties = length-replicate 8 idle; pairs = length-replicate 240 freshPair; lines = length-replicate {A = Line} entryLimit (record { entry = Done (record { 0 = 0 }) }) };
+        long = record {
+          parties = length-replicate 8 idle;
+          pairs = length-replicate 240 freshPair;
+          lines = length-replicate {A = Line} entryLimit (record { entry = Done (record { 0 = 0 }) });
+        };
         reached = first;
         now = refl;
         clients = λ c h. rw (all-same 8 c idle) (λ i q b. absurd (omega arith));

@@ -81,7 +81,8 @@ module _ (r : Rack) (e : Event) (p : Plan) (v : View) (name : ℕ → ℕ → �
 
   starting : Moved S v startedView o new (suc o)
   starting =
-      moved S v (t .reached) (start o client (q .cell .0) (writes (q .goal)) (valueOf (q .goal))) (unused, (client-rank (r .sizes) z client (l .client), free)) o _ new (suc o) refl refl
+      moved S v (t .reached) (start o client (q .cell .0) (writes (q .goal)) (valueOf (q .goal))) (unused, (client-rank (r .sizes) z client (l .client), free)) o _ new
+      (suc o) refl refl
 
   -- ---- the messages
 

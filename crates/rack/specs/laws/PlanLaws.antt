@@ -329,9 +329,11 @@ module _ (z : Sizes) (n : Sized z) (power : ℕ) (party : Party) (pair : Pair) (
   pub plan-fits : (held : InSlot) → heldFits z held ≡ true → (e : Event) → inRack z e ≡ true → OutcomeFits z party held (planOf seen held e)
   unfolding planOf ofSlot inRack heldFits offOf onOf
   plan-fits held hh (StartRead client cell) i =
-      start-fits held client cell _ _ (ltb-true (client .0) (z .clients) (and-left (ltb (client .0) (z .clients)) (ltb (cell .0) (z .cells)) i)) (ltb-true (cell .0) (z .cells) (and-right (ltb (client .0) (z .clients)) (ltb (cell .0) (z .cells)) i))
+      start-fits held client cell _ _ (ltb-true (client .0) (z .clients) (and-left (ltb (client .0) (z .clients)) (ltb (cell .0) (z .cells)) i))
+      (ltb-true (cell .0) (z .cells) (and-right (ltb (client .0) (z .clients)) (ltb (cell .0) (z .cells)) i))
   plan-fits held hh (StartWrite client cell v) i =
-      start-fits held client cell _ _ (ltb-true (client .0) (z .clients) (and-left (ltb (client .0) (z .clients)) (ltb (cell .0) (z .cells)) i)) (ltb-true (cell .0) (z .cells) (and-right (ltb (client .0) (z .clients)) (ltb (cell .0) (z .cells)) i))
+      start-fits held client cell _ _ (ltb-true (client .0) (z .clients) (and-left (ltb (client .0) (z .clients)) (ltb (cell .0) (z .cells)) i))
+      (ltb-true (cell .0) (z .cells) (and-right (ltb (client .0) (z .clients)) (ltb (cell .0) (z .cells)) i))
   plan-fits Empty hh (Deliver slot) i = tt
   plan-fits (Full m) hh (Deliver slot) i = deliver-fits m (named z m hh)
   plan-fits Empty hh (Lose slot) i = tt

@@ -42,11 +42,20 @@ returns c = simp (sym (c .before .before .before .read-up-to .ensures) ∙ c .be
 
 returns-2 : tie.Need-returns-2
 unfolding entryAt andThen
-returns-2 c = simp (sym (c .before .before .before .before .before .before .before .read-up-to .ensures) ∙ c .before .before .before .before .before .kind .given .1, sym (c .before .before .before .read-up-to2 .ensures) ∙ c .before .k2 .given .1)
+returns-2 c = simp (
+  sym (c .before .before .before .before .before .before .before .read-up-to .ensures)
+      ∙ c .before .before .before .before .before .kind .given .1,
+  sym (c .before .before .before .read-up-to2 .ensures) ∙ c .before .k2 .given .1,
+)
 
 returns-3 : tie.Need-returns-3
 unfolding entryAt andThen
-returns-3 c = simp (sym (c .before .before .before .before .before .before .before .before .read-up-to .ensures) ∙ c .before .before .before .before .before .before .kind .given .1, sym (c .before .before .before .before .read-up-to2 .ensures) ∙ c .before .before .client .given .1) (c .read-fields .ensures)
+returns-3 c = simp (
+  sym (c .before .before .before .before .before .before .before .before .read-up-to .ensures)
+      ∙ c .before .before .before .before .before .before .kind .given .1,
+  sym (c .before .before .before .before .read-up-to2 .ensures)
+      ∙ c .before .before .client .given .1,
+) (c .read-fields .ensures)
 
 pub read-entry-spec : {M : Type 1} → statement M
 read-entry-spec =

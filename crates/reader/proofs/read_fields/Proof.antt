@@ -33,11 +33,21 @@ signed-requires c κs = search needs
 
 returns-2 : tie.Need-returns-2
 unfolding fieldsAt andThen
-returns-2 c = simp (ne-eqb _ _ (c .before .before .before .before .before .if1 .left), eq-eqb _ _ (c .before .before .before .before .if2 .taken), sym (c .before .before .before .read-number .ensures) ∙ c .before .k .given .1)
+returns-2 c = simp (
+  ne-eqb _ _ (c .before .before .before .before .before .if1 .left),
+  eq-eqb _ _ (c .before .before .before .before .if2 .taken),
+  sym (c .before .before .before .read-number .ensures) ∙ c .before .k .given .1,
+)
 
 returns-3 : tie.Need-returns-3
 unfolding fieldsAt andThen
-returns-3 c = simp (ne-eqb _ _ (c .before .before .before .before .before .before .if1 .left), eq-eqb _ _ (c .before .before .before .before .before .if2 .taken), sym (c .before .before .before .before .read-number .ensures) ∙ c .before .before .v .given .1, signed-of-bits (c .signed .result) (c .before .before .v .given .0 .0) (omega arith) (c .signed .ensures))
+returns-3 c = simp (
+  ne-eqb _ _ (c .before .before .before .before .before .before .if1 .left),
+  eq-eqb _ _ (c .before .before .before .before .before .if2 .taken),
+  sym (c .before .before .before .before .read-number .ensures)
+      ∙ c .before .before .v .given .1,
+  signed-of-bits (c .signed .result) (c .before .before .v .given .0 .0) (omega arith) (c .signed .ensures),
+)
 
 read-up-to-requires : tie.Need-read-up-to-requires
 read-up-to-requires c κs = search needs
@@ -53,7 +63,12 @@ cast-t23 c = omega (arith, passed 15 25 _ _ _ (sym (c .before .before .before .b
 
 returns-4 : tie.Need-returns-4
 unfolding fieldsAt andThen
-returns-4 c = simp (ne-eqb _ _ (c .before .before .before .before .before .before .if1 .left), ne-eqb _ _ (c .before .before .before .before .before .if2 .left), sym (c .before .before .before .before .read-up-to .ensures) ∙ c .before .before .cell .given .1, eq-eqb _ _ (c .if3 .taken))
+returns-4 c = simp (
+  ne-eqb _ _ (c .before .before .before .before .before .before .if1 .left),
+  ne-eqb _ _ (c .before .before .before .before .before .if2 .left),
+  sym (c .before .before .before .before .read-up-to .ensures) ∙ c .before .before .cell .given .1,
+  eq-eqb _ _ (c .if3 .taken),
+)
 
 read-number-requires-2 : tie.Need-read-number-requires-2
 read-number-requires-2 c κs = search needs
@@ -65,22 +80,46 @@ enum-known-v-2 : tie.Need-enum-known-v-2
 enum-known-v-2 c = search needs
 
 cast-t28 : tie.Need-cast-t28
-cast-t28 c = omega (arith, passed 15 25 _ _ _ (sym (c .before .before .before .before .before .before .before .before .read-up-to .ensures) ∙ c .before .before .before .before .before .before .cell .given .1) .1)
+cast-t28 c = omega (
+  arith,
+  passed 15 25 _ _ _ (sym (c .before .before .before .before .before .before .before .before .read-up-to .ensures)
+      ∙ c .before .before .before .before .before .before .cell .given .1) .1,
+)
 
 signed-requires-2 : tie.Need-signed-requires-2
 signed-requires-2 c κs = search needs
 
 returns-5 : tie.Need-returns-5
 unfolding fieldsAt andThen
-returns-5 c = simp (ne-eqb _ _ (c .before .before .before .before .before .if1 .left), ne-eqb _ _ (c .before .before .before .before .if2 .left), sym (c .before .before .before .read-up-to .ensures) ∙ c .before .k2 .given .1)
+returns-5 c = simp (
+  ne-eqb _ _ (c .before .before .before .before .before .if1 .left),
+  ne-eqb _ _ (c .before .before .before .before .if2 .left),
+  sym (c .before .before .before .read-up-to .ensures) ∙ c .before .k2 .given .1,
+)
 
 returns-6 : tie.Need-returns-6
 unfolding fieldsAt andThen
-returns-6 c = simp (ne-eqb _ _ (c .before .before .before .before .before .before .before .before .before .before .if1 .left), ne-eqb _ _ (c .before .before .before .before .before .before .before .before .before .if2 .left), sym (c .before .before .before .before .before .before .before .before .read-up-to .ensures) ∙ c .before .before .before .before .before .before .cell .given .1, ne-eqb _ _ (c .before .before .before .before .if3 .left), sym (c .before .before .before .read-number2 .ensures) ∙ c .before .k3 .given .1)
+returns-6 c = simp (
+  ne-eqb _ _ (c .before .before .before .before .before .before .before .before .before .before .if1 .left),
+  ne-eqb _ _ (c .before .before .before .before .before .before .before .before .before .if2 .left),
+  sym (c .before .before .before .before .before .before .before .before .read-up-to .ensures)
+      ∙ c .before .before .before .before .before .before .cell .given .1,
+  ne-eqb _ _ (c .before .before .before .before .if3 .left),
+  sym (c .before .before .before .read-number2 .ensures) ∙ c .before .k3 .given .1,
+)
 
 returns-7 : tie.Need-returns-7
 unfolding fieldsAt andThen
-returns-7 c = simp (ne-eqb _ _ (c .before .before .before .before .before .before .before .before .before .before .before .if1 .left), ne-eqb _ _ (c .before .before .before .before .before .before .before .before .before .before .if2 .left), sym (c .before .before .before .before .before .before .before .before .before .read-up-to .ensures) ∙ c .before .before .before .before .before .before .before .cell .given .1, ne-eqb _ _ (c .before .before .before .before .before .if3 .left), sym (c .before .before .before .before .read-number2 .ensures) ∙ c .before .before .v2 .given .1, signed-of-bits (c .signed2 .result) (c .before .before .v2 .given .0 .0) (omega arith) (c .signed2 .ensures))
+returns-7 c = simp (
+  ne-eqb _ _ (c .before .before .before .before .before .before .before .before .before .before .before .if1 .left),
+  ne-eqb _ _ (c .before .before .before .before .before .before .before .before .before .before .if2 .left),
+  sym (c .before .before .before .before .before .before .before .before .before .read-up-to .ensures)
+      ∙ c .before .before .before .before .before .before .before .cell .given .1,
+  ne-eqb _ _ (c .before .before .before .before .before .if3 .left),
+  sym (c .before .before .before .before .read-number2 .ensures)
+      ∙ c .before .before .v2 .given .1,
+  signed-of-bits (c .signed2 .result) (c .before .before .v2 .given .0 .0) (omega arith) (c .signed2 .ensures),
+)
 
 pub read-fields-spec : {M : Type 1} → statement M
 read-fields-spec =

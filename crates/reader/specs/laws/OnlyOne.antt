@@ -19,7 +19,8 @@ one-take h r r′ k k′ p q = record { answer = one-entry (now (h .bytes)) (h .
 -- the place of a head that took what was found there
 place-is : (s : List ℕ) (at : ℕ) (f : Found) (h k : ReadingHead) → entryAt s at ≡ f → now (h .bytes) ≡ s → h .place ≡ at → k ≡ headAfter h → k .place ≡ placeAfter f at
 place-is s at f h k e b p q =
-    ap (λ (x : ReadingHead). x .place) q ∙ (ap (λ (l : List ℕ). placeAfter (entryAt l (h .place)) (h .place)) b ∙ (ap (λ (n : ℕ). placeAfter (entryAt s n) n) p ∙ ap (λ (x : Found). placeAfter x at) e))
+    ap (λ (x : ReadingHead). x .place) q
+    ∙ (ap (λ (l : List ℕ). placeAfter (entryAt l (h .place)) (h .place)) b ∙ (ap (λ (n : ℕ). placeAfter (entryAt s n) n) p ∙ ap (λ (x : Found). placeAfter x at) e))
 
 -- a head doesn't stay before the entry that it took, and doesn't pass one that is refused
 pub not-standing : (h k : ReadingHead) → now (h .bytes) ≡ 0x03 ∷ 0x00 ∷ 0x07 ∷ [] → h .place ≡ 0 → k ≡ headAfter h → k .place ≡ 0 → ⊥

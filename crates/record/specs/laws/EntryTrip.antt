@@ -136,7 +136,8 @@ fields s at a b zero client e next h wk wc hc hk p =
       within = d .within;
     })
 fields s at a b (suc zero) client e next h wk wc hc hk p =
-    let w = went (upTo 15 25 (numberAt s b)) (λ cell c. andThen Fault (numberAt s c) (λ v d. At (WriteAsked (record { 0 = client }) (record { 0 = cell }) (signedOf v)) d)) e next p in
+    let w = went (upTo 15 25 (numberAt s b))
+    (λ cell c. andThen Fault (numberAt s c) (λ v d. At (WriteAsked (record { 0 = client }) (record { 0 = cell }) (signedOf v)) d)) e next p in
     let q = passed 15 25 (w .n) (w .m) (numberAt s b) (w .is) in
     let d = written-read s b (w .n) (w .m) h (q .0) in
     let u = went (numberAt s (w .m)) (λ v x. At (WriteAsked (record { 0 = client }) (record { 0 = w .n }) (signedOf v)) x) e next (w .on) in

@@ -65,13 +65,16 @@ same-length-2 : tie.Need-same-length-2
 same-length-2 c = search needs
 
 returns-2 : tie.Need-returns-2
-returns-2 c = says-unlawful _ _ (c .before .before .before .before .before .before .before .before .before .before .before .before .v .given .1) (c .before .before .before .before .before .before .before .put-field .ensures) (c .before .before .put-words2 .ensures)
+returns-2 c = says-unlawful _ _ (c .before .before .before .before .before .before .before .before .before .before .before .before .v .given .1)
+    (c .before .before .before .before .before .before .before .put-field .ensures) (c .before .before .put-words2 .ensures)
 
 same-length-3 : tie.Need-same-length-3
 same-length-3 c = search needs
 
 returns-3 : tie.Need-returns-3
-returns-3 c = says-refused _ _ _ (c .before .before .before .before .before .before .before .before .before .before .before .before .before .before .before .before .v2 .given .1) (c .before .before .before .before .before .before .before .before .before .before .before .before .put-field2 .ensures) (c .before .before .before .before .before .before .before .put-field3 .ensures) (c .before .before .put-words3 .ensures)
+returns-3 c = says-refused _ _ _ (c .before .before .before .before .before .before .before .before .before .before .before .before .before .before .before .before .v2 .given .1)
+    (c .before .before .before .before .before .before .before .before .before .before .before .before .put-field2 .ensures)
+    (c .before .before .before .before .before .before .before .put-field3 .ensures) (c .before .before .put-words3 .ensures)
 
 pub put-line-spec : {M : Type 1} → statement M
 put-line-spec =

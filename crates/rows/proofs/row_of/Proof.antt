@@ -47,11 +47,19 @@ returns c = simp (c .before .before .before .e .given .1)
 
 returns-2 : tie.Need-returns-2
 unfolding rowOf
-returns-2 c = simp (c .before .before .before .before .e2 .given .1, alternating-of-bits (c .before .before .before .before .e2 .given .0 .1 .1 .0) (c .alternating .result) (search needs) (c .alternating .ensures))
+returns-2 c = simp (
+  c .before .before .before .before .e2 .given .1,
+  alternating-of-bits (c .before .before .before .before .e2 .given .0 .1 .1 .0) (c .alternating .result)
+      (search needs) (c .alternating .ensures),
+)
 
 returns-3 : tie.Need-returns-3
 unfolding rowOf
-returns-3 c = simp (c .before .before .before .e3 .given .1, alternating-of-bits (c .before .before .before .e3 .given .0 .1 .0) (c .alternating2 .result) (search needs) (c .alternating2 .ensures))
+returns-3 c = simp (
+  c .before .before .before .e3 .given .1,
+  alternating-of-bits (c .before .before .before .e3 .given .0 .1 .0) (c .alternating2 .result) (search needs)
+      (c .alternating2 .ensures),
+)
 
 returns-4 : tie.Need-returns-4
 unfolding rowOf

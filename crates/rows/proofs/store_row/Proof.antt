@@ -28,7 +28,8 @@ same-length c = search needs
 returns-3 : tie.Need-returns-3
 returns-3 c = (
   sym (room-in _ _ (omega (arith, c .before .before .before .before .before .if2 .left))),
-  c .before .before .put-row .ensures ∙ ap (sets _ _) (c .before .before .before .row-of .ensures) ∙ sym (stored-in _ _ _ (omega (arith, c .before .before .before .before .before .if2 .left))),
+  c .before .before .put-row .ensures ∙ ap (sets _ _) (c .before .before .before .row-of .ensures)
+      ∙ sym (stored-in _ _ _ (omega (arith, c .before .before .before .before .before .if2 .left))),
 )
 
 pub store-row-spec : {M : Type 1} → statement M

@@ -28,13 +28,15 @@ same-length : tie.Need-same-length Inv-loop μ-loop
 same-length c = fills-long _ _ _ _ _ _ (c .before .before .before .before .before .loop .inv)
 
 returns : tie.Need-returns Inv-loop μ-loop
-returns c = absurd (fills-entry _ _ _ _ _ _ (c .before .before .before .before .before .loop .inv) _ (c .before .before .before .before .loop-test .taken) (sym (c .before .before .before .entry-at .ensures) ∙ c .before .k .given .1))
+returns c = absurd (fills-entry _ _ _ _ _ _ (c .before .before .before .before .before .loop .inv) _ (c .before .before .before .before .loop-test .taken)
+    (sym (c .before .before .before .entry-at .ensures) ∙ c .before .k .given .1))
 
 enum-known-e : tie.Need-enum-known-e Inv-loop μ-loop
 enum-known-e c = search needs
 
 mul-store-row : tie.Need-mul-store-row Inv-loop μ-loop
-mul-store-row c = let h = fills-room _ _ _ _ _ _ (c .before .before .before .before .before .before .loop .inv) (c .before .before .before .before .before .loop-test .taken) in omega arith
+mul-store-row c = let h = fills-room _ _ _ _ _ _ (c .before .before .before .before .before .before .loop .inv) (c .before .before .before .before .before .loop-test .taken) in
+    omega arith
 
 store-row-requires : tie.Need-store-row-requires Inv-loop μ-loop
 store-row-requires c κs = tt
@@ -46,7 +48,11 @@ loop-less : tie.Need-loop-less Inv-loop μ-loop
 loop-less c = search needs
 
 loop-again : tie.Need-loop-again Inv-loop μ-loop
-loop-again c = fills-on _ _ _ _ _ _ (c .before .before .before .before .before .before .before .before .before .loop .inv) _ _ _ (c .before .before .before .before .before .before .before .before .loop-test .taken) (sym (c .before .before .before .before .before .before .before .entry-at .ensures) ∙ c .before .before .before .before .before .e .given .1) (c .before .before .store-row .ensures .1 ∙ stored-in _ _ _ (fills-room _ _ _ _ _ _ (c .before .before .before .before .before .before .before .before .before .loop .inv) (c .before .before .before .before .before .before .before .before .loop-test .taken)))
+loop-again c = fills-on _ _ _ _ _ _ (c .before .before .before .before .before .before .before .before .before .loop .inv) _ _ _
+    (c .before .before .before .before .before .before .before .before .loop-test .taken) (sym (c .before .before .before .before .before .before .before .entry-at .ensures)
+    ∙ c .before .before .before .before .before .e .given .1) (c .before .before .store-row .ensures .1
+    ∙ stored-in _ _ _ (fills-room _ _ _ _ _ _ (c .before .before .before .before .before .before .before .before .before .loop .inv)
+    (c .before .before .before .before .before .before .before .before .loop-test .taken)))
 
 same-length-2 : tie.Need-same-length-2 Inv-loop μ-loop
 same-length-2 c = fills-long _ _ _ _ _ _ (c .before .loop .inv)

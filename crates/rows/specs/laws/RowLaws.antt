@@ -52,7 +52,8 @@ module _ (kind client cell value next : ℕ) where
 -- a row is four numbers long
 pub row-next : (ws : List ℕ) (at : ℕ) (e : Entry) (next : ℕ) → rowAt ws at ≡ At e next → next ≡ at + 4
 unfolding rowAt rowFound
-row-next ws at e next p = go (ltb 3 (getD ws at 0)) (ltb 7 (getD ws (at + 1) 0) || (ltb (getD ws at 0) 2 && ltb 15 (getD ws (at + 2) 0))) (entryOf (getD ws at 0) (getD ws (at + 1) 0) (getD ws (at + 2) 0) (getD ws (at + 3) 0)) p
+row-next ws at e next p = go (ltb 3 (getD ws at 0)) (ltb 7 (getD ws (at + 1) 0) || (ltb (getD ws at 0) 2 && ltb 15 (getD ws (at + 2) 0)))
+    (entryOf (getD ws at 0) (getD ws (at + 1) 0) (getD ws (at + 2) 0) (getD ws (at + 3) 0)) p
   where
     go : (t u : Bool) (f : Entry) → cond t (Fault 24) (cond u (Fault 25) (At f (at + 4))) ≡ At e next → next ≡ at + 4
     go true u f q = let z : _≡_ {A = ℕ} 0 1 = cc in absurd (omega arith)

@@ -20,7 +20,8 @@ use Rattle.rows.specs.Row.{rowOf, rowFound, rowAt}
 use Rattle.rows.specs.laws.RowLaws.{row-24, row-25-client, row-25-cell, row-done, row-told, row-read, row-write}
 
 -- a row's four numbers at place at
-row-there : (ws : List ℕ) (at kind client cell value : ℕ) (more : List ℕ) → drop at ws ≡ kind ∷ client ∷ cell ∷ value ∷ more → rowAt ws at ≡ rowFound kind client cell value (at + 4)
+row-there : (ws : List ℕ) (at kind client cell value : ℕ) (more : List ℕ) → drop at ws ≡ kind ∷ client ∷ cell ∷ value ∷ more
+    → rowAt ws at ≡ rowFound kind client cell value (at + 4)
 unfolding rowAt
 row-there ws at kind client cell value more e =
     let a : getD ws at 0 ≡ kind = ap (λ (i : ℕ). getD ws i 0) (omega arith) ∙ sym (getD-drop at ws 0 0) ∙ ap (λ (l : List ℕ). getD l 0 0) e in

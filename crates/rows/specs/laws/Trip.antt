@@ -144,7 +144,8 @@ unfolding writeInto
 writes-legal es d l = ap (λ (h : Held). writeInto h d) (rows-of-rows es l)
 
 -- the rows that a read leaves are written back as the bytes that were read, or refused with 20
-pub write-after-read : (s d : List ℕ) (n : ℕ) (b : List ℕ) → Bytes s → readOutcome s d .answer ≡ All n → writeOutcome (take (4 * n) (readOutcome s d .lent)) b ≡ stored s (length s) b
+pub write-after-read : (s d : List ℕ) (n : ℕ) (b : List ℕ) → Bytes s → readOutcome s d .answer ≡ All n
+    → writeOutcome (take (4 * n) (readOutcome s d .lent)) b ≡ stored s (length s) b
 write-after-read s d n b h p =
     let w = read-took (bytesHeld s) d n p in
     ap (λ (l : List ℕ). writeOutcome l b) (w .front)

@@ -183,7 +183,8 @@ module _ (self : Rack) (allowance : ℕ) (ws : List ℕ) (r : Rack) (free : List
   unfolding turn
   going-on e ee p s after f n d m h es t ef =
       record {
-        steps = next e ee (Go p) d (omega (arith, m .below)) (omega (arith, m .whole)) ∙ ap (λ (q : Rack). runFrom (i + 1) q (allowance - (i + 1)) (drop (4 * (i + 1)) ws)) (sym es);
+        steps = next e ee (Go p) d (omega (arith, m .below)) (omega (arith, m .whole))
+            ∙ ap (λ (q : Rack). runFrom (i + 1) q (allowance - (i + 1)) (drop (4 * (i + 1)) ws)) (sym es);
         sound = ap soundOf es ∙ sound-stays r e p (g .sound) d;
         tied = t;
         rooms = omega (arith, ef, g .rooms, room-after r e p (decided-fits r e p (g .sound) d) (g .wire-long), ap (λ (q : Rack). roomOf (q .wire)) es);

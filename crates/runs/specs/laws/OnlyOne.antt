@@ -44,7 +44,8 @@ record Begun (q : Ran) : Type 0 where
   count : q .rack .count ≡ 1
 
 begun-from : Begun (runFrom 0 (freshRack 3 1 1) 5 (1 ∷ 0 ∷ 0 ∷ 18 ∷ []))
-unfolding setBits hasReplica everyReplica membersFrom ones countFrom firstFrom started startIn startOf planOf freeAt roomOf sentOf owes owedBy owedIn owed freshRack byte eventOf inRack slotOf clientIn placeIn clientOf noted freed checked decided addressed cleared recorded entriesIn appliedOf turn runFrom signedOf
+unfolding setBits hasReplica everyReplica membersFrom ones countFrom firstFrom started startIn startOf planOf freeAt roomOf sentOf owes owedBy owedIn owed freshRack byte eventOf
+    inRack slotOf clientIn placeIn clientOf noted freed checked decided addressed cleared recorded entriesIn appliedOf turn runFrom signedOf
 begun-from = record { done = refl; refusal = refl; room = refl; count = refl }
 
 begun : (q : Ran) → Starts q → Begun q

@@ -200,7 +200,8 @@ sending-start n w j b s m to free after es h l f t k o sm nm =
 
 -- ---- the map made a slot at a time
 
-pub map-next : (w : List Slot) (i : ℕ) (b : Bool) (ws : List ℕ) → b ≡ isEmpty (heldIn w i) → Maps (markedAt b (freeBelow i (freeAt w)) i) ws → Maps (freeBelow (i + 1) (freeAt w)) ws
+pub map-next : (w : List Slot) (i : ℕ) (b : Bool) (ws : List ℕ) → b ≡ isEmpty (heldIn w i) → Maps (markedAt b (freeBelow i (freeAt w)) i) ws
+    → Maps (freeBelow (i + 1) (freeAt w)) ws
 unfolding freeAt
 map-next w i b ws e t = upto-next i (freeAt w) ws (rw e at t)
 

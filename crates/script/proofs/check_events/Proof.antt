@@ -27,16 +27,19 @@ enum-known-k : tie.Need-enum-known-k Inv-loop μ-loop
 enum-known-k c = search needs
 
 returns : tie.Need-returns Inv-loop μ-loop
-returns c = sym (c .before .before .before .before .before .loop .inv ∙ fault-here _ _ _ _ _ (c .before .before .before .before .loop-test .taken) (sym (c .before .before .before .read-event .ensures) ∙ c .before .k .given .1))
+returns c = sym (c .before .before .before .before .before .loop .inv
+    ∙ fault-here _ _ _ _ _ (c .before .before .before .before .loop-test .taken) (sym (c .before .before .before .read-event .ensures) ∙ c .before .k .given .1))
 
 enum-known-next : tie.Need-enum-known-next Inv-loop μ-loop
 enum-known-next c = search needs
 
 loop-less : tie.Need-loop-less Inv-loop μ-loop
-loop-less c = let h = event-rises _ _ _ _ _ _ _ (sym (c .before .before .before .read-event .ensures) ∙ c .before .next .given .1) in omega (arith, h, c .before .before .before .before .loop-test .taken)
+loop-less c = let h = event-rises _ _ _ _ _ _ _ (sym (c .before .before .before .read-event .ensures) ∙ c .before .next .given .1) in
+    omega (arith, h, c .before .before .before .before .loop-test .taken)
 
 loop-again : tie.Need-loop-again Inv-loop μ-loop
-loop-again c = c .before .before .before .before .before .loop .inv ∙ fault-later _ _ _ _ _ _ _ _ (c .before .before .before .before .loop-test .taken) (sym (c .before .before .before .read-event .ensures) ∙ c .before .next .given .1)
+loop-again c = c .before .before .before .before .before .loop .inv
+    ∙ fault-later _ _ _ _ _ _ _ _ (c .before .before .before .before .loop-test .taken) (sym (c .before .before .before .read-event .ensures) ∙ c .before .next .given .1)
 
 returns-2 : tie.Need-returns-2 Inv-loop μ-loop
 returns-2 c = let a = c .before .before .before .args in

@@ -33,7 +33,8 @@ same-length-2 : tie.Need-same-length-2 Inv-loop μ-loop
 same-length-2 c = c .before .before .before .before .before .loop .inv .long
 
 returns-2 : tie.Need-returns-2 Inv-loop μ-loop
-returns-2 c = stops-at-fault _ _ _ _ _ _ (c .before .before .before .before .before .loop .inv) _ _ (c .before .before .before .if1 .left) (sym (c .before .before .read-event .ensures) ∙ c .enum-told .given .1)
+returns-2 c = stops-at-fault _ _ _ _ _ _ (c .before .before .before .before .before .loop .inv) _ _ (c .before .before .before .if1 .left)
+    (sym (c .before .before .read-event .ensures) ∙ c .enum-told .given .1)
 
 enum-known-kind : tie.Need-enum-known-kind Inv-loop μ-loop
 enum-known-kind c = search needs
@@ -42,7 +43,8 @@ mul-put-event : tie.Need-mul-put-event Inv-loop μ-loop
 mul-put-event c = omega (arith, c .before .before .before .before .before .before .before .loop .inv .few)
 
 put-event-requires : tie.Need-put-event-requires Inv-loop μ-loop
-put-event-requires c κs = omega (arith, c .before .before .before .before .before .before .before .loop .inv .long, c .before .before .before .before .before .before .loop-test .taken)
+put-event-requires c κs = omega
+    (arith, c .before .before .before .before .before .before .before .loop .inv .long, c .before .before .before .before .before .before .loop-test .taken)
 
 add-i : tie.Need-add-i Inv-loop μ-loop
 add-i c = search needs
@@ -51,7 +53,10 @@ loop-less : tie.Need-loop-less Inv-loop μ-loop
 loop-less c = omega (arith, c .before .before .before .before .before .before .before .before .before .loop-test .taken)
 
 loop-again : tie.Need-loop-again Inv-loop μ-loop
-loop-again c = rw (c .before .before .put-event .ensures) (stores _ _ _ _ _ _ (c .before .before .before .before .before .before .before .before .before .before .loop .inv) _ _ _ _ _ (c .before .before .before .before .before .before .before .before .before .loop-test .taken) (c .before .before .before .before .before .before .before .before .if1 .left) (sym (c .before .before .before .before .before .before .before .read-event .ensures) ∙ c .before .before .before .before .before .kind .given .1))
+loop-again c = rw (c .before .before .put-event .ensures)
+    (stores _ _ _ _ _ _ (c .before .before .before .before .before .before .before .before .before .before .loop .inv) _ _ _ _ _
+    (c .before .before .before .before .before .before .before .before .before .loop-test .taken) (c .before .before .before .before .before .before .before .before .if1 .left)
+    (sym (c .before .before .before .before .before .before .before .read-event .ensures) ∙ c .before .before .before .before .before .kind .given .1))
 
 same-length-3 : tie.Need-same-length-3 Inv-loop μ-loop
 same-length-3 c = c .before .loop .inv .long

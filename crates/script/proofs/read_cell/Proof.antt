@@ -29,7 +29,11 @@ returns-2 c = simp (sym (c .before .before .before .read-number .ensures) ∙ c 
 
 returns-3 : tie.Need-returns-3
 unfolding cellAt andThen
-returns-3 c = simp (sym (c .before .before .before .before .before .read-number .ensures) ∙ c .before .before .before .cell .given .1, ne-eqb _ _ (c .before .if1 .left)) (c .read-last .ensures)
+returns-3 c = simp (
+  sym (c .before .before .before .before .before .read-number .ensures)
+      ∙ c .before .before .before .cell .given .1,
+  ne-eqb _ _ (c .before .if1 .left),
+) (c .read-last .ensures)
 
 pub read-cell-spec : {M : Type 1} → statement M
 read-cell-spec =

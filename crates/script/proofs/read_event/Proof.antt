@@ -29,7 +29,11 @@ returns-2 c = simp (sym (c .before .before .before .read-number .ensures) ∙ c 
 
 returns-3 : tie.Need-returns-3
 unfolding eventAt andThen
-returns-3 c = simp (sym (c .before .before .before .before .before .read-number .ensures) ∙ c .before .before .before .kind .given .1, le-ltb _ _ (c .before .if1 .left)) (c .read-fields .ensures)
+returns-3 c = simp (
+  sym (c .before .before .before .before .before .read-number .ensures)
+      ∙ c .before .before .before .kind .given .1,
+  le-ltb _ _ (c .before .if1 .left),
+) (c .read-fields .ensures)
 
 pub read-event-spec : {M : Type 1} → statement M
 read-event-spec =

@@ -42,15 +42,32 @@ returns c = simp (sym (c .before .before .before .read-number .ensures) ∙ c .b
 
 returns-2 : tie.Need-returns-2
 unfolding headOf andThen
-returns-2 c = simp (sym (c .before .before .before .before .before .before .before .read-number .ensures) ∙ c .before .before .before .before .before .replicas .given .1, sym (c .before .before .before .read-number2 .ensures) ∙ c .before .k2 .given .1)
+returns-2 c = simp (
+  sym (c .before .before .before .before .before .before .before .read-number .ensures)
+      ∙ c .before .before .before .before .before .replicas .given .1,
+  sym (c .before .before .before .read-number2 .ensures) ∙ c .before .k2 .given .1,
+)
 
 returns-3 : tie.Need-returns-3
 unfolding headOf andThen
-returns-3 c = simp (sym (c .before .before .before .before .before .before .before .before .before .before .before .read-number .ensures) ∙ c .before .before .before .before .before .before .before .before .before .replicas .given .1, sym (c .before .before .before .before .before .before .before .read-number2 .ensures) ∙ c .before .before .before .before .before .clients .given .1, sym (c .before .before .before .read-number3 .ensures) ∙ c .before .k3 .given .1)
+returns-3 c = simp (
+  sym (c .before .before .before .before .before .before .before .before .before .before .before .read-number .ensures)
+      ∙ c .before .before .before .before .before .before .before .before .before .replicas .given .1,
+  sym (c .before .before .before .before .before .before .before .read-number2 .ensures)
+      ∙ c .before .before .before .before .before .clients .given .1,
+  sym (c .before .before .before .read-number3 .ensures) ∙ c .before .k3 .given .1,
+)
 
 returns-4 : tie.Need-returns-4
 unfolding headOf andThen
-returns-4 c = simp (sym (c .before .before .before .before .before .before .before .before .before .before .before .before .read-number .ensures) ∙ c .before .before .before .before .before .before .before .before .before .before .replicas .given .1, sym (c .before .before .before .before .before .before .before .before .read-number2 .ensures) ∙ c .before .before .before .before .before .before .clients .given .1, sym (c .before .before .before .before .read-number3 .ensures) ∙ c .before .before .cells .given .1) (c .read-last .ensures)
+returns-4 c = simp (
+  sym (c .before .before .before .before .before .before .before .before .before .before .before .before .read-number .ensures)
+      ∙ c .before .before .before .before .before .before .before .before .before .before .replicas .given .1,
+  sym (c .before .before .before .before .before .before .before .before .read-number2 .ensures)
+      ∙ c .before .before .before .before .before .before .clients .given .1,
+  sym (c .before .before .before .before .read-number3 .ensures)
+      ∙ c .before .before .cells .given .1,
+) (c .read-last .ensures)
 
 pub read-head-spec : {M : Type 1} → statement M
 read-head-spec =

@@ -50,7 +50,12 @@ module _ {bytes : List ℕ} {es : List Entry} (held : bytesHeld bytes ≡ entrie
   unlawful-line p q t = says (unlawful 2) (es, (taken-for, lowest-2 es p q (by-no (dec-lawful (operations (partOf 2 es))) t)))
 
 pub sheet : Sheet
-unfolding groupsOf alternatingOf bytesHeld heldFrom allOf distinct distinctFrom allBytes operations notes dec-lawful entryBytes enter before faultAfter standingAfter entryAt fieldsAt upTo andThen numberAt numberOf taken lastOf valueOf signedOf repeats askedAmong asksFor note partOf partFrom setBits hasReplica withReplica majority asksEnough keepsEnough everyReplica within membersFrom ones countFrom firstFrom stampLess raised started startIn startOf askOf keepOf current keepsOf phaseEnds holds tellCounts tellIn tellOf lastEntry keptCounts keptIn keptOf deliverIn deliverOf ofSlot planOf freeAt roomOf sentOf allBelow sizesFit pairFits bodyFits messageFits heldFits workFits owes owedBy owedIn owed wireFits pairsFit partiesFit recordFits soundOf freshRack byte eventOf inRack slotOf clientIn placeIn clientOf noted freed checked decided addressed cleared recorded entriesIn appliedOf turn runFrom runOf sentBy deliveredBy counted countOver recordOf
+unfolding groupsOf alternatingOf bytesHeld heldFrom allOf distinct distinctFrom allBytes operations notes dec-lawful entryBytes enter before faultAfter standingAfter entryAt
+    fieldsAt upTo andThen numberAt numberOf taken lastOf valueOf signedOf repeats askedAmong asksFor note partOf partFrom setBits hasReplica withReplica majority asksEnough
+    keepsEnough everyReplica within membersFrom ones countFrom firstFrom stampLess raised started startIn startOf askOf keepOf current keepsOf phaseEnds holds tellCounts tellIn
+    tellOf lastEntry keptCounts keptIn keptOf deliverIn deliverOf ofSlot planOf freeAt roomOf sentOf allBelow sizesFit pairFits bodyFits messageFits heldFits workFits owes owedBy
+    owedIn owed wireFits pairsFit partiesFit recordFits soundOf freshRack byte eventOf inRack slotOf clientIn placeIn clientOf noted freed checked decided addressed cleared
+    recorded entriesIn appliedOf turn runFrom runOf sentBy deliveredBy counted countOver recordOf
 sheet =
     record {
       number-127 = of-127;

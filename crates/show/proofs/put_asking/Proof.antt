@@ -20,7 +20,8 @@ same-length : tie.Need-same-length
 same-length c = search needs
 
 returns : tie.Need-returns
-returns c = join (c .before .before .before .before .before .before .before .before .before .before .put-words .ensures) (join (c .before .before .before .before .before .before .put-open .ensures) (c .before .before .put-first-held .ensures))
+returns c = join (c .before .before .before .before .before .before .before .before .before .before .put-words .ensures)
+    (join (c .before .before .before .before .before .before .put-open .ensures) (c .before .before .put-first-held .ensures))
 
 pub put-asking-spec : {M : Type 1} → statement M
 put-asking-spec =

@@ -32,7 +32,8 @@ same-length : tie.Need-same-length
 same-length c = search needs
 
 returns : tie.Need-returns
-returns c = rw (← c .before .before .before .before .before .before .before .before .before .pair-at .ensures) (join (c .before .before .before .before .before .before .put-words .ensures) (c .before .before .put-pair .ensures))
+returns c = rw (← c .before .before .before .before .before .before .before .before .before .pair-at .ensures)
+    (join (c .before .before .before .before .before .before .put-words .ensures) (c .before .before .put-pair .ensures))
 
 pub put-cell-spec : {M : Type 1} → statement M
 put-cell-spec =

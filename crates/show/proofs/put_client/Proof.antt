@@ -29,7 +29,9 @@ same-length : tie.Need-same-length
 same-length c = search needs
 
 returns : tie.Need-returns
-returns c = join (c .before .before .before .before .before .before .before .before .before .before .before .before .before .before .before .put-field .ensures) (join (c .before .before .before .before .before .before .before .before .before .before .before .put-stopped .ensures) (join (c .before .before .before .before .before .before .before .put-work .ensures) (c .before .before .put-words .ensures)))
+returns c = join (c .before .before .before .before .before .before .before .before .before .before .before .before .before .before .before .put-field .ensures)
+    (join (c .before .before .before .before .before .before .before .before .before .before .before .put-stopped .ensures)
+    (join (c .before .before .before .before .before .before .before .put-work .ensures) (c .before .before .put-words .ensures)))
 
 pub put-client-spec : {M : Type 1} → statement M
 put-client-spec =

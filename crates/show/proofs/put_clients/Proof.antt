@@ -35,7 +35,11 @@ loop-less : tie.Need-loop-less Inv-loop μ-loop
 loop-less c = search needs
 
 loop-again : tie.Need-loop-again Inv-loop μ-loop
-loop-again c = (search needs, each-next _ _ (c .before .before .before .before .before .before .loop .inv .1) (rw (← c .before .before .before .party-at .ensures) (c .before .before .put-client .ensures)))
+loop-again c = (
+  search needs,
+  each-next _ _ (c .before .before .before .before .before .before .loop .inv .1)
+      (rw (← c .before .before .before .party-at .ensures) (c .before .before .put-client .ensures)),
+)
 
 same-length : tie.Need-same-length Inv-loop μ-loop
 same-length c = printed-length (c .before .loop .inv .1)

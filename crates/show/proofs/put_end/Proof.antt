@@ -35,7 +35,11 @@ same-length : tie.Need-same-length
 same-length c = search needs
 
 returns : tie.Need-returns
-returns c = join (c .before .before .before .before .before .before .before .before .before .before .before .before .before .before .before .before .before .before .before .before .before .put-field .ensures) (join (c .before .before .before .before .before .before .before .before .before .before .before .before .before .before .before .before .put-words .ensures) (join (c .before .before .before .before .before .before .before .before .before .before .before .put-words2 .ensures) (join (c .before .before .before .before .before .before .before .put-refusal .ensures) (c .before .before .put-words3 .ensures))))
+returns c = join (c .before .before .before .before .before .before .before .before .before .before .before .before .before .before .before .before .before .before .before .before
+    .before .put-field .ensures) (join
+    (c .before .before .before .before .before .before .before .before .before .before .before .before .before .before .before .before .put-words .ensures)
+    (join (c .before .before .before .before .before .before .before .before .before .before .before .put-words2 .ensures)
+    (join (c .before .before .before .before .before .before .before .put-refusal .ensures) (c .before .before .put-words3 .ensures))))
 
 pub put-end-spec : {M : Type 1} → statement M
 put-end-spec =

@@ -40,13 +40,19 @@ loop-less : tie.Need-loop-less Inv-loop μ-loop
 loop-less c = search needs
 
 loop-again : tie.Need-loop-again Inv-loop μ-loop
-loop-again c = (search needs, next-entry (c .before .before .before .before .before .before .before .before .before .args .t3) _ _ (omega (arith, c .before .before .before .before .before .loop-test .taken, c .before .before .before .before .before .before .before .entries-in .ensures)) (c .before .before .before .before .before .before .loop .inv .1) (c .before .before .put-entry .ensures))
+loop-again c = (
+  search needs,
+  next-entry (c .before .before .before .before .before .before .before .before .before .args .t3) _ _
+      (omega (arith, c .before .before .before .before .before .loop-test .taken, c .before .before .before .before .before .before .before .entries-in .ensures))
+      (c .before .before .before .before .before .before .loop .inv .1) (c .before .before .put-entry .ensures),
+)
 
 same-length : tie.Need-same-length Inv-loop μ-loop
 same-length c = printed-length (c .before .loop .inv .1)
 
 returns : tie.Need-returns Inv-loop μ-loop
-returns c = all-entries (c .before .before .before .before .args .t3) _ _ (omega arith) (c .before .loop .inv .0) (omega (arith, c .loop-test .left, c .before .before .entries-in .ensures)) (c .before .loop .inv .1)
+returns c = all-entries (c .before .before .before .before .args .t3) _ _ (omega arith) (c .before .loop .inv .0)
+    (omega (arith, c .loop-test .left, c .before .before .entries-in .ensures)) (c .before .loop .inv .1)
 
 pub put-entries-spec : {M : Type 1} → statement M
 put-entries-spec =

@@ -21,7 +21,8 @@ array-share-prefix-bytes : tie.Need-array-share-prefix-bytes
 array-share-prefix-bytes c = entry-front _ _ _ _ refl (c .before .before .before .before .before .write-entry .ensures) _ (c .before .before .next .given .1) .0
 
 slice-aggregate-put-hex : tie.Need-slice-aggregate-put-hex
-slice-aggregate-put-hex c = sym (length-take-le _ _ (entry-front _ _ _ _ refl (c .before .before .before .before .before .before .write-entry .ensures) _ (c .before .before .before .next .given .1) .0))
+slice-aggregate-put-hex c = sym
+    (length-take-le _ _ (entry-front _ _ _ _ refl (c .before .before .before .before .before .before .write-entry .ensures) _ (c .before .before .before .next .given .1) .0))
 
 put-hex-requires : tie.Need-put-hex-requires
 put-hex-requires c κs = search needs
@@ -33,7 +34,9 @@ same-length : tie.Need-same-length
 same-length c = search needs
 
 returns : tie.Need-returns
-returns c = same-text (ap hexText (entry-front _ _ _ _ refl (c .before .before .before .before .before .before .before .before .before .write-entry .ensures) _ (c .before .before .before .before .before .before .next .given .1) .1)) (c .before .before .put-hex .ensures)
+returns c = same-text (ap hexText
+    (entry-front _ _ _ _ refl (c .before .before .before .before .before .before .before .before .before .write-entry .ensures) _
+    (c .before .before .before .before .before .before .next .given .1) .1)) (c .before .before .put-hex .ensures)
 
 returns-2 : tie.Need-returns-2
 returns-2 c = absurd (entry-room _ _ _ _ refl (c .before .before .before .write-entry .ensures) (c .enum-told .given .1))

@@ -28,7 +28,8 @@ same-length c = search needs
 
 returns : tie.Need-returns
 unfolding faultLine
-returns c = join (c .before .before .before .before .before .before .before .before .before .before .before .before .put-field .ensures) (join (c .before .before .before .before .before .before .before .put-field2 .ensures) (c .before .before .put-words .ensures))
+returns c = join (c .before .before .before .before .before .before .before .before .before .before .before .before .put-field .ensures)
+    (join (c .before .before .before .before .before .before .before .put-field2 .ensures) (c .before .before .put-words .ensures))
 
 pub put-fault-spec : {M : Type 1} → statement M
 put-fault-spec =

@@ -39,7 +39,10 @@ same-length-2 : tie.Need-same-length-2
 same-length-2 c = search needs
 
 returns-2 : tie.Need-returns-2
-returns-2 c = same-text (ap goalText (sym (c .before .before .before .before .before .before .before .before .before .before .goal .given .1))) (join (c .before .before .before .before .before .before .put-words2 .ensures) (same-text (ap valueText (value-of-bits (c .before .before .before .before .before .before .before .before .before .before .goal .given .0 .0) (search needs))) (c .before .before .put-value .ensures)))
+returns-2 c = same-text (ap goalText (sym (c .before .before .before .before .before .before .before .before .before .before .goal .given .1)))
+    (join (c .before .before .before .before .before .before .put-words2 .ensures)
+    (same-text (ap valueText (value-of-bits (c .before .before .before .before .before .before .before .before .before .before .goal .given .0 .0) (search needs)))
+    (c .before .before .put-value .ensures)))
 
 pub put-goal-spec : {M : Type 1} → statement M
 put-goal-spec =

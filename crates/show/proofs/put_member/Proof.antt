@@ -21,7 +21,8 @@ same-length : tie.Need-same-length
 same-length c = search needs
 
 returns : tie.Need-returns
-returns c = rw (sym (c .before .before .before .before .before .before .before .has .ensures) ∙ c .before .before .before .before .before .before .if1 .taken) (c .before .before .put-field .ensures)
+returns c = rw (sym (c .before .before .before .before .before .before .before .has .ensures)
+    ∙ c .before .before .before .before .before .before .if1 .taken) (c .before .before .put-field .ensures)
 
 returns-2 : tie.Need-returns-2
 returns-2 c = rw (sym (c .before .has .ensures) ∙ c .if1 .left) nothing

@@ -17,7 +17,8 @@ same-length : tie.Need-same-length
 same-length c = search needs
 
 returns : tie.Need-returns
-returns c = join (c .before .before .before .before .before .before .before .before .before .before .put-kind .ensures) (join (c .before .before .before .before .before .before .put-names .ensures) (c .before .before .put-body-pair .ensures))
+returns c = join (c .before .before .before .before .before .before .before .before .before .before .put-kind .ensures)
+    (join (c .before .before .before .before .before .before .put-names .ensures) (c .before .before .put-body-pair .ensures))
 
 pub put-message-spec : {M : Type 1} → statement M
 put-message-spec =

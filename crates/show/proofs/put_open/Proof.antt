@@ -35,7 +35,11 @@ same-length : tie.Need-same-length
 same-length c = search needs
 
 returns : tie.Need-returns
-returns c = join (c .before .before .before .before .before .before .before .before .before .before .before .before .before .before .before .before .before .before .before .before .before .before .put-goal .ensures) (join (c .before .before .before .before .before .before .before .before .before .before .before .before .before .before .before .before .put-field .ensures) (join (c .before .before .before .before .before .before .before .before .before .before .before .put-field2 .ensures) (join (c .before .before .before .before .before .before .put-words .ensures) (c .before .before .put-members .ensures))))
+returns c = join (c .before .before .before .before .before .before .before .before .before .before .before .before .before .before .before .before .before .before .before .before
+    .before .before .put-goal .ensures)
+    (join (c .before .before .before .before .before .before .before .before .before .before .before .before .before .before .before .before .put-field .ensures)
+    (join (c .before .before .before .before .before .before .before .before .before .before .before .put-field2 .ensures)
+    (join (c .before .before .before .before .before .before .put-words .ensures) (c .before .before .put-members .ensures))))
 
 pub put-open-spec : {M : Type 1} → statement M
 put-open-spec =

@@ -17,7 +17,8 @@ same-length : tie.Need-same-length
 same-length c = search needs
 
 returns : tie.Need-returns
-returns c = rw (sym (c .before .before .before .before .before .before .has .ensures) ∙ c .before .before .before .before .before .if1 .taken) (c .before .before .put-words .ensures)
+returns c = rw (sym (c .before .before .before .before .before .before .has .ensures)
+    ∙ c .before .before .before .before .before .if1 .taken) (c .before .before .put-words .ensures)
 
 slice-aggregate-put-words-2 : tie.Need-slice-aggregate-put-words-2
 slice-aggregate-put-words-2 c = search needs
@@ -29,7 +30,8 @@ same-length-2 : tie.Need-same-length-2
 same-length-2 c = search needs
 
 returns-2 : tie.Need-returns-2
-returns-2 c = rw (sym (c .before .before .before .before .before .before .has .ensures) ∙ c .before .before .before .before .before .if1 .left) (c .before .before .put-words2 .ensures)
+returns-2 c = rw (sym (c .before .before .before .before .before .before .has .ensures)
+    ∙ c .before .before .before .before .before .if1 .left) (c .before .before .put-words2 .ensures)
 
 pub put-power-spec : {M : Type 1} → statement M
 put-power-spec =

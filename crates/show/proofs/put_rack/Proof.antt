@@ -23,7 +23,10 @@ same-length : tie.Need-same-length
 same-length c = search needs
 
 returns : tie.Need-returns
-returns c = join (c .before .before .before .before .before .before .before .before .before .before .before .before .before .before .before .before .before .before .put-sizes .ensures) (join (c .before .before .before .before .before .before .before .before .before .before .before .before .before .before .put-replicas .ensures) (join (c .before .before .before .before .before .before .before .before .before .before .put-clients .ensures) (join (c .before .before .before .before .before .before .put-wire .ensures) (c .before .before .put-record .ensures))))
+returns c = join (c .before .before .before .before .before .before .before .before .before .before .before .before .before .before .before .before .before .before .put-sizes
+    .ensures) (join (c .before .before .before .before .before .before .before .before .before .before .before .before .before .before .put-replicas .ensures)
+    (join (c .before .before .before .before .before .before .before .before .before .before .put-clients .ensures)
+    (join (c .before .before .before .before .before .before .put-wire .ensures) (c .before .before .put-record .ensures))))
 
 pub put-rack-spec : {M : Type 1} → statement M
 put-rack-spec =

@@ -25,7 +25,8 @@ same-length c = search needs
 
 returns : tie.Need-returns
 unfolding recordOf
-returns c = join (c .before .before .before .before .before .before .before .before .before .before .before .put-words .ensures) (join (c .before .before .before .before .before .before .before .put-entries .ensures) (c .before .before .put-words2 .ensures))
+returns c = join (c .before .before .before .before .before .before .before .before .before .before .before .put-words .ensures)
+    (join (c .before .before .before .before .before .before .before .put-entries .ensures) (c .before .before .put-words2 .ensures))
 
 pub put-record-spec : {M : Type 1} → statement M
 put-record-spec =

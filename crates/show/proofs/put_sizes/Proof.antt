@@ -41,7 +41,9 @@ same-length : tie.Need-same-length
 same-length c = search needs
 
 returns : tie.Need-returns
-returns c = join (c .before .before .before .before .before .before .before .before .before .before .before .before .before .before .before .before .before .before .before .put-field .ensures) (join (c .before .before .before .before .before .before .before .before .before .before .before .before .before .put-field2 .ensures) (join (c .before .before .before .before .before .before .before .put-field3 .ensures) (c .before .before .put-words .ensures)))
+returns c = join (c .before .before .before .before .before .before .before .before .before .before .before .before .before .before .before .before .before .before .before
+    .put-field .ensures) (join (c .before .before .before .before .before .before .before .before .before .before .before .before .before .put-field2 .ensures)
+    (join (c .before .before .before .before .before .before .before .put-field3 .ensures) (c .before .before .put-words .ensures)))
 
 pub put-sizes-spec : {M : Type 1} → statement M
 put-sizes-spec =

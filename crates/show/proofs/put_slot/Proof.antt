@@ -34,7 +34,10 @@ same-length : tie.Need-same-length
 same-length c = search needs
 
 returns-2 : tie.Need-returns-2
-returns-2 c = same-text (ap (slotLine _) (sym (c .before .before .before .before .before .before .before .before .before .before .before .before .before .before .before .held .given .1))) (join (c .before .before .before .before .before .before .before .before .before .before .before .put-field .ensures) (join (c .before .before .before .before .before .before .before .put-message .ensures) (c .before .before .put-words .ensures)))
+returns-2 c = same-text (ap (slotLine _)
+    (sym (c .before .before .before .before .before .before .before .before .before .before .before .before .before .before .before .held .given .1)))
+    (join (c .before .before .before .before .before .before .before .before .before .before .before .put-field .ensures)
+    (join (c .before .before .before .before .before .before .before .put-message .ensures) (c .before .before .put-words .ensures)))
 
 pub put-slot-spec : {M : Type 1} → statement M
 put-slot-spec =

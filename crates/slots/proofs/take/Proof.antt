@@ -67,4 +67,5 @@ returns-2 c =
     (search needs, λ f t. let p = l .inv .1 f t in took-nothing f (l .free) (l .j) (p .0) (p .1) (search needs))
 
 pub take-spec : {M : Type 1} → statement M
-take-spec = tie.close (tie.spec Inv-loop μ-loop loop-holds mul-x element-copy-out-x rest-requires mul-free element-write-free mul-result low-requires add-result returns add-j loop-less loop-again returns-2)
+take-spec = tie.close (tie.spec Inv-loop μ-loop loop-holds mul-x element-copy-out-x rest-requires mul-free element-write-free mul-result low-requires add-result returns add-j
+    loop-less loop-again returns-2)

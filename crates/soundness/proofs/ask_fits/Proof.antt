@@ -18,13 +18,24 @@ within-requires : tie.Need-within-requires
 within-requires c κs = search needs
 
 returns-3 : tie.Need-returns-3
-returns-3 c = rw (lt-ltb _ _ (c .before .before .before .before .if1 .left), sym (c .before .before .before .told-fits .ensures) ∙ not-false _ (c .before .before .if2 .left), sym (c .before .within .ensures) ∙ not-true _ (c .if3 .taken))
+returns-3 c = rw (
+  lt-ltb _ _ (c .before .before .before .before .if1 .left),
+  sym (c .before .before .before .told-fits .ensures)
+      ∙ not-false _ (c .before .before .if2 .left),
+  sym (c .before .within .ensures) ∙ not-true _ (c .if3 .taken),
+)
 
 asks-enough-requires : tie.Need-asks-enough-requires
 asks-enough-requires c κs = search needs
 
 returns-4 : tie.Need-returns-4
-returns-4 c = rw (c .asks-enough .ensures, lt-ltb _ _ (c .before .before .before .before .before .if1 .left), sym (c .before .before .before .before .told-fits .ensures) ∙ not-false _ (c .before .before .before .if2 .left), sym (c .before .before .within .ensures) ∙ not-false _ (c .before .if3 .left))
+returns-4 c = rw (
+  c .asks-enough .ensures,
+  lt-ltb _ _ (c .before .before .before .before .before .if1 .left),
+  sym (c .before .before .before .before .told-fits .ensures)
+      ∙ not-false _ (c .before .before .before .if2 .left),
+  sym (c .before .before .within .ensures) ∙ not-false _ (c .before .if3 .left),
+)
 
 pub ask-fits-spec : {M : Type 1} → statement M
 ask-fits-spec =

@@ -22,7 +22,12 @@ body-fits-requires c κs = search needs
 
 returns-4 : tie.Need-returns-4
 unfolding messageFits
-returns-4 c = rw (c .body-fits .ensures, lt-ltb _ _ (c .before .before .before .before .before .before .before .if1 .left), lt-ltb _ _ (c .before .before .before .before .if2 .left), lt-ltb _ _ (c .before .if3 .left))
+returns-4 c = rw (
+  c .body-fits .ensures,
+  lt-ltb _ _ (c .before .before .before .before .before .before .before .if1 .left),
+  lt-ltb _ _ (c .before .before .before .before .if2 .left),
+  lt-ltb _ _ (c .before .if3 .left),
+)
 
 pub message-fits-spec : {M : Type 1} → statement M
 message-fits-spec = tie.close (tie.spec returns returns-2 returns-3 body-fits-requires returns-4)

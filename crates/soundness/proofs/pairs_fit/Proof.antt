@@ -37,7 +37,11 @@ loop-less : tie.Need-loop-less Inv-loop μ-loop
 loop-less c = search needs
 
 loop-again : tie.Need-loop-again Inv-loop μ-loop
-loop-again c = (search needs, all-next (c .before .before .before .loop .k) _ (c .before .before .before .loop .inv .1) (sym (c .before .replica-fits .ensures) ∙ not-false _ (c .if1 .left)))
+loop-again c = (
+  search needs,
+  all-next (c .before .before .before .loop .k) _ (c .before .before .before .loop .inv .1) (sym (c .before .replica-fits .ensures)
+      ∙ not-false _ (c .if1 .left)),
+)
 
 returns-2 : tie.Need-returns-2 Inv-loop μ-loop
 unfolding pairsFit

@@ -34,7 +34,8 @@ work-fits-requires c κs = search needs
 
 returns : tie.Need-returns Inv-loop μ-loop
 unfolding partiesFit
-returns c = sym (all-fail _ (c .before .before .before .before .loop .i) _ (c .before .before .before .loop-test .taken) (sym (c .before .work-fits .ensures) ∙ not-true _ (c .if1 .taken)))
+returns c = sym (all-fail _ (c .before .before .before .before .loop .i) _ (c .before .before .before .loop-test .taken) (sym (c .before .work-fits .ensures)
+    ∙ not-true _ (c .if1 .taken)))
 
 add-i : tie.Need-add-i Inv-loop μ-loop
 add-i c = search needs
@@ -43,7 +44,11 @@ loop-less : tie.Need-loop-less Inv-loop μ-loop
 loop-less c = search needs
 
 loop-again : tie.Need-loop-again Inv-loop μ-loop
-loop-again c = (search needs, all-next (c .before .before .before .before .loop .i) _ (c .before .before .before .before .loop .inv .1) (sym (c .before .work-fits .ensures) ∙ not-false _ (c .if1 .left)))
+loop-again c = (
+  search needs,
+  all-next (c .before .before .before .before .loop .i) _ (c .before .before .before .before .loop .inv .1) (sym (c .before .work-fits .ensures)
+      ∙ not-false _ (c .if1 .left)),
+)
 
 returns-2 : tie.Need-returns-2 Inv-loop μ-loop
 unfolding partiesFit

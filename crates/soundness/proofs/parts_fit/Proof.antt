@@ -19,21 +19,41 @@ pairs-fit-requires c κs = let z = sized (c .before .before .args .rack .sizes) 
 
 returns-2 : tie.Need-returns-2
 unfolding soundOf
-returns-2 c = rw (c .before .before .before .before .pre, sym (c .before .before .before .wire-fits .ensures) ∙ not-false _ (c .before .before .if1 .left), sym (c .before .pairs-fit .ensures) ∙ not-true _ (c .if2 .taken))
+returns-2 c = rw (
+  c .before .before .before .before .pre,
+  sym (c .before .before .before .wire-fits .ensures)
+      ∙ not-false _ (c .before .before .if1 .left),
+  sym (c .before .pairs-fit .ensures) ∙ not-true _ (c .if2 .taken),
+)
 
 parties-fit-requires : tie.Need-parties-fit-requires
 parties-fit-requires c κs = sized (c .before .before .before .before .args .rack .sizes) (c .before .before .before .before .pre) .clients
 
 returns-3 : tie.Need-returns-3
 unfolding soundOf
-returns-3 c = rw (c .before .before .before .before .before .before .pre, sym (c .before .before .before .before .before .wire-fits .ensures) ∙ not-false _ (c .before .before .before .before .if1 .left), sym (c .before .before .before .pairs-fit .ensures) ∙ not-false _ (c .before .before .if2 .left), sym (c .before .parties-fit .ensures) ∙ not-true _ (c .if3 .taken))
+returns-3 c = rw (
+  c .before .before .before .before .before .before .pre,
+  sym (c .before .before .before .before .before .wire-fits .ensures)
+      ∙ not-false _ (c .before .before .before .before .if1 .left),
+  sym (c .before .before .before .pairs-fit .ensures)
+      ∙ not-false _ (c .before .before .if2 .left),
+  sym (c .before .parties-fit .ensures) ∙ not-true _ (c .if3 .taken),
+)
 
 record-fits-requires : tie.Need-record-fits-requires
 record-fits-requires c κs = search needs
 
 returns-4 : tie.Need-returns-4
 unfolding soundOf
-returns-4 c = rw (c .record-fits .ensures, c .before .before .before .before .before .before .before .pre, sym (c .before .before .before .before .before .before .wire-fits .ensures) ∙ not-false _ (c .before .before .before .before .before .if1 .left), sym (c .before .before .before .before .pairs-fit .ensures) ∙ not-false _ (c .before .before .before .if2 .left), sym (c .before .before .parties-fit .ensures) ∙ not-false _ (c .before .if3 .left))
+returns-4 c = rw (
+  c .record-fits .ensures,
+  c .before .before .before .before .before .before .before .pre,
+  sym (c .before .before .before .before .before .before .wire-fits .ensures)
+      ∙ not-false _ (c .before .before .before .before .before .if1 .left),
+  sym (c .before .before .before .before .pairs-fit .ensures)
+      ∙ not-false _ (c .before .before .before .if2 .left),
+  sym (c .before .before .parties-fit .ensures) ∙ not-false _ (c .before .if3 .left),
+)
 
 pub parts-fit-spec : {M : Type 1} → statement M
 parts-fit-spec =

@@ -13,7 +13,11 @@ owed-by-all-requires : tie.Need-owed-by-all-requires
 owed-by-all-requires c κs = search needs
 
 add-result : tie.Need-add-result
-add-result c = omega (arith, c .owed-by-all .ensures, owed-most (c .before .before .before .before .args .rack .sizes .clients) (c .before .before .before .before .args .rack .parties))
+add-result c = omega (
+  arith,
+  c .owed-by-all .ensures,
+  owed-most (c .before .before .before .before .args .rack .sizes .clients) (c .before .before .before .before .args .rack .parties),
+)
 
 returns-2 : tie.Need-returns-2
 returns-2 c = record-is (c .before .before .before .before .args .rack) _ (c .owed-by-all .ensures)

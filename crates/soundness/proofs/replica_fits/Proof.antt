@@ -39,7 +39,8 @@ pair-fits-requires : tie.Need-pair-fits-requires Inv-loop μ-loop
 pair-fits-requires c κs = search needs
 
 returns : tie.Need-returns Inv-loop μ-loop
-returns c = sym (all-fail _ (c .before .before .before .before .loop .x) _ (c .before .before .before .loop-test .taken) (sym (c .before .pair-fits .ensures) ∙ not-true _ (c .if1 .taken)))
+returns c = sym (all-fail _ (c .before .before .before .before .loop .x) _ (c .before .before .before .loop-test .taken) (sym (c .before .pair-fits .ensures)
+    ∙ not-true _ (c .if1 .taken)))
 
 add-x : tie.Need-add-x Inv-loop μ-loop
 add-x c = search needs
@@ -48,7 +49,11 @@ loop-less : tie.Need-loop-less Inv-loop μ-loop
 loop-less c = search needs
 
 loop-again : tie.Need-loop-again Inv-loop μ-loop
-loop-again c = (search needs, all-next (c .before .before .before .before .loop .x) _ (c .before .before .before .before .loop .inv .1) (sym (c .before .pair-fits .ensures) ∙ not-false _ (c .if1 .left)))
+loop-again c = (
+  search needs,
+  all-next (c .before .before .before .before .loop .x) _ (c .before .before .before .before .loop .inv .1) (sym (c .before .pair-fits .ensures)
+      ∙ not-false _ (c .if1 .left)),
+)
 
 returns-2 : tie.Need-returns-2 Inv-loop μ-loop
 returns-2 c = all-end _ (c .before .loop .x) _ (c .loop-test .left) (c .before .loop .inv .0) (c .before .loop .inv .1)

@@ -31,7 +31,8 @@ held-fits-requires c κs = search needs
 
 returns : tie.Need-returns Inv-loop μ-loop
 unfolding wireFits
-returns c = sym (all-fail 256 (c .before .before .before .before .loop .i) _ (c .before .before .before .loop-test .taken) (sym (c .before .held-fits .ensures) ∙ not-true _ (c .if1 .taken)))
+returns c = sym (all-fail 256 (c .before .before .before .before .loop .i) _ (c .before .before .before .loop-test .taken) (sym (c .before .held-fits .ensures)
+    ∙ not-true _ (c .if1 .taken)))
 
 add-i : tie.Need-add-i Inv-loop μ-loop
 add-i c = search needs
@@ -40,7 +41,11 @@ loop-less : tie.Need-loop-less Inv-loop μ-loop
 loop-less c = search needs
 
 loop-again : tie.Need-loop-again Inv-loop μ-loop
-loop-again c = (search needs, all-next (c .before .before .before .before .loop .i) _ (c .before .before .before .before .loop .inv .1) (sym (c .before .held-fits .ensures) ∙ not-false _ (c .if1 .left)))
+loop-again c = (
+  search needs,
+  all-next (c .before .before .before .before .loop .i) _ (c .before .before .before .before .loop .inv .1) (sym (c .before .held-fits .ensures)
+      ∙ not-false _ (c .if1 .left)),
+)
 
 returns-2 : tie.Need-returns-2 Inv-loop μ-loop
 unfolding wireFits

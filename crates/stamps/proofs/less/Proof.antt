@@ -10,7 +10,8 @@ returns-2 : tie.Need-returns-2
 returns-2 c = more-number (c .before .before .before .before .before .before .args .s) (c .before .before .before .before .before .before .args .t) (c .if2 .taken)
 
 returns-3 : tie.Need-returns-3
-returns-3 c = less-rank (c .before .before .before .before .before .before .before .before .args .s) (c .before .before .before .before .before .before .before .before .args .t) (c .before .before .before .before .before .if1 .left) (c .before .before .if2 .left)
+returns-3 c = less-rank (c .before .before .before .before .before .before .before .before .args .s) (c .before .before .before .before .before .before .before .before .args .t)
+    (c .before .before .before .before .before .if1 .left) (c .before .before .if2 .left)
 
 pub less-spec : {M : Type 1} → statement M
 less-spec = tie.close (tie.spec returns returns-2 returns-3)

@@ -1,4 +1,5 @@
--- `stamps::raise` meets its contract: a walk of its MIR, by hand. The pair is copied to a local, which is lent to `raise_in_place` for a lifetime that is made for the call, and taken back at the last value that its contract says.
+-- `stamps::raise` meets its contract: a walk of its MIR, by hand. The pair is copied to a local, which is lent to `raise_in_place` for a lifetime that is made for the call, and
+-- taken back at the last value that its contract says.
 -- All that the proof knows of `raise_in_place` is that it meets its contract. A pair owns only facts, so what it owns is made anew for each use.
 use mathlib.Core.Path.{_≡_, refl}
 use Prim.Native.Nat.{ℕ}
@@ -78,10 +79,12 @@ module _ {M : Type 1} (𝓤 : URA M) (H : Heap 𝓤) (A : Atoms 𝓤) (W : Given
   taken-out : ent 𝓤 (sem 𝓤 H A (partAt R fullShare y l 0)) (sep 𝓤 (H .at fullShare T′.mir l 0 (val y)) (sem 𝓤 H A (R .own y (val y ∷ []))))
   unfolding partOf
   taken-out =
-      qed W (‵ (partAt R fullShare y l 0) ∷ []) ∵ fpick ! (λ vs. fsplit ! $ spelt ! R (Is R) (shows 𝓤 H A R) (LL.vals T.the-type T′.the-laws) (LL.tells T.the-type T′.the-laws) fullShare y vs l 0 $
+      qed W (‵ (partAt R fullShare y l 0) ∷ []) ∵ fpick !
+      (λ vs. fsplit ! $ spelt ! R (Is R) (shows 𝓤 H A R) (LL.vals T.the-type T′.the-laws) (LL.tells T.the-type T′.the-laws) fullShare y vs l 0 $
       use1 W (‵ (fat fullShare T′.mir l 0 (val y))) (W .laws .raw-at fullShare T′.mir l 0 (val y)) $ done !)
 
-module _ {M : Type 1} (𝓤 : URA M) (H : Heap 𝓤) (A : Atoms 𝓤) (W : Given 𝓤 H A) (at-mem : Memory → SProp 𝓤) (run : Routine → Fun 𝓤) (p g : Pair) (p-is : Is R p (val p ∷ [])) (g-is : Is R g (val g ∷ [])) where
+module _ {M : Type 1} (𝓤 : URA M) (H : Heap 𝓤) (A : Atoms 𝓤) (W : Given 𝓤 H A) (at-mem : Memory → SProp 𝓤) (run : Routine
+    → Fun 𝓤) (p g : Pair) (p-is : Is R p (val p ∷ [])) (g-is : Is R g (val g ∷ [])) where
   abbrev x : Pair × (Pair × Unit {0})
   x = (p, (g, tt))
 
@@ -98,7 +101,8 @@ module _ {M : Type 1} (𝓤 : URA M) (H : Heap 𝓤) (A : Atoms 𝓤) (W : Given
   abbrev to-lent : ℕ → ℕ → GName → Lent 𝓤 H A at-mem run .Ghost
   to-lent α l δ = (((α ∷ [], tt), (fullShare, tt), tt, (own l δ, (g, tt)), (vptr l 0 ∷ [], (val g ∷ [], tt))), tt)
 
-  goes-lent : (α l : ℕ) (δ : GName) → ent 𝓤 (sep 𝓤 (A .lft (α ∷ []) fullShare) (sem 𝓤 H A (MutRef (named 0) (α ∷ []) R .own (own l δ) (vptr l 0 ∷ [])))) (Lent 𝓤 H A at-mem run .pre (to-lent α l δ))
+  goes-lent : (α l : ℕ) (δ : GName)
+      → ent 𝓤 (sep 𝓤 (A .lft (α ∷ []) fullShare) (sem 𝓤 H A (MutRef (named 0) (α ∷ []) R .own (own l δ) (vptr l 0 ∷ [])))) (Lent 𝓤 H A at-mem run .pre (to-lent α l δ))
   goes-lent α l δ =
       qed W (‵ (flft (α ∷ []) fullShare) ∷ ‵ (MutRef (named 0) (α ∷ []) R .own (own l δ) (vptr l 0 ∷ [])) ∷ []) ∵ nothing ! $ move ! (1 ∷ 0 ∷ []) $ join ! $
       nothing ! $ owned ! R (Is R) (makes 𝓤 H A W l g) g _ g-is $ fjoin ! $ move ! (2 ∷ 0 ∷ []) $ fjoin ! $ move ! (1 ∷ 0 ∷ []) $ join ! $ frame ! $ done !
@@ -114,32 +118,42 @@ module _ {M : Type 1} (𝓤 : URA M) (H : Heap 𝓤) (A : Atoms 𝓤) (W : Given
     walk =
         qed W (‵ ftrue ∷ ‵ (owns (R ∷ R ∷ []) x at) ∷ []) ∵ keep ! [] $ enter ! C Λ code.function (val p ∷ val g ∷ []) _ $
         alloc1 ! (λ l₀. alloc1 ! (λ l₁. alloc1 ! (λ l₂. alloc1 ! (λ l₃. alloc1 ! (λ l₄. alloc1 ! (λ l₅. alloc0 ! $ params1 ! $
-        pass1 ! (init ! 8 refl (LL.lawful T.the-type T′.the-laws 𝓤 H A W .typed p _ p-is .0)) $ pass1 ! (init ! 6 refl (LL.lawful T.the-type T′.the-laws 𝓤 H A W .typed g _ g-is .0)) $ pass0 ! $
+        pass1 ! (init ! 8 refl (LL.lawful T.the-type T′.the-laws 𝓤 H A W .typed p _ p-is .0)) $ pass1 !
+        (init ! 6 refl (LL.lawful T.the-type T′.the-laws 𝓤 H A W .typed g _ g-is .0)) $ pass0 ! $
         assigns ! (of-opd ! (load ! (from ! (stop !)) (look ! 8 refl))) (from ! (stop !)) (init ! 4 refl (LL.lawful T.the-type T′.the-laws 𝓤 H A W .typed p _ p-is .0)) $
         assigns ! (addr ! (from ! (stop !))) (from ! (stop !)) (init ! 0 refl (tt, tt)) $
         -- the local is lent for a new lifetime
         move ! (4 ∷ []) $ use1 W (‵ (partAt R fullShare p l₃ 0)) (put-in 𝓤 H A W l₃ p p-is) $ lft-new ! tt (λ α. move ! (1 ∷ []) $
-        use1 W (later (some (λ (δ : GName). ‵ (MutRef (named 0) (α ∷ []) R .own (own l₃ δ) (vptr l₃ 0 ∷ [])) ⊛ ‵ (flent (α ∷ []) (Body (mem R) l₃ 0 δ))))) (lends-ref 𝓤 H A W R (named 0) (α ∷ []) p l₃ 0) $
+        use1 W (later (some (λ (δ : GName). ‵ (MutRef (named 0) (α ∷ []) R .own (own l₃ δ) (vptr l₃ 0 ∷ [])) ⊛ ‵ (flent (α ∷ []) (Body (mem R) l₃ 0 δ)))))
+        (lends-ref 𝓤 H A W R (named 0) (α ∷ []) p l₃ 0) $
         await ! tt $ pick ! (λ δ. split ! $ move ! (2 ∷ 0 ∷ []) $ use2 W (raw (Lent 𝓤 H A at-mem run .pre (to-lent α l₃ δ))) (goes-lent α l₃ δ) $
         -- [what is asked; the lender's part; _5; …; room for _4; …; what frees _3; _2; …; _1; …; room for _0; …]
-        calls-at ! fm (Lent 𝓤 H A at-mem run) known (to-lent α l₃ δ) (and-then ! (load ! (from ! (stop !)) (look ! 2 refl)) (and-then ! (load ! (from ! (stop !)) (look ! 7 refl)) (no-more !))) (λ v.
-        use1 W (later (some (λ (r : Unit {0}). ((‵ (flft (α ∷ []) fullShare) ⊛ ‵ ftrue) ⊛ ‵ (Nothing .own r (v ∷ []))) ⊛ raw (ensured 𝓤 H A lent.ended (lent.clauses 𝓤 H A at-mem run) (α ∷ [], tt) (own l₃ δ, (g, tt)) tt r)))) (id⊢ 𝓤 _) $ await ! tt $ pick ! (λ r.
-        split ! $ move ! (1 ∷ []) $ use1 W (some (λ (zs : Pair × (Unit {0} × Unit {0})). ‵ (lasts lent.ended (α ∷ [], tt) (own l₃ δ, (g, tt)) zs) ⊛ raw (fact 𝓤 (zs .0 ≡ raised p g)))) (id⊢ 𝓤 _) $ pick ! (λ zs.
-        split ! $ move ! (1 ∷ []) $ heard ! (zs .0 ≡ raised p g) (λ e. fsplit ! $ move ! (2 ∷ []) $ split ! $ move ! (1 ∷ []) $ peeks ! Nothing (Is Nothing) (shows 𝓤 H A Nothing) r (v ∷ []) (λ is.
+        calls-at ! fm (Lent 𝓤 H A at-mem run) known (to-lent α l₃ δ)
+        (and-then ! (load ! (from ! (stop !)) (look ! 2 refl)) (and-then ! (load ! (from ! (stop !)) (look ! 7 refl)) (no-more !))) (λ v.
+        use1 W (later (some (λ (r : Unit {0}). ((‵ (flft (α ∷ []) fullShare) ⊛ ‵ ftrue) ⊛ ‵ (Nothing .own r (v ∷ []))) ⊛ raw
+        (ensured 𝓤 H A lent.ended (lent.clauses 𝓤 H A at-mem run) (α ∷ [], tt) (own l₃ δ, (g, tt)) tt r)))) (id⊢ 𝓤 _) $ await ! tt $ pick ! (λ r.
+        split ! $ move ! (1 ∷ []) $ use1 W
+        (some (λ (zs : Pair × (Unit {0} × Unit {0})). ‵ (lasts lent.ended (α ∷ [], tt) (own l₃ δ, (g, tt)) zs) ⊛ raw (fact 𝓤 (zs .0 ≡ raised p g)))) (id⊢ 𝓤 _) $ pick ! (λ zs.
+        split ! $ move ! (1 ∷ []) $ heard ! (zs .0 ≡ raised p g)
+        (λ e. fsplit ! $ move ! (2 ∷ []) $ split ! $ move ! (1 ∷ []) $ peeks ! Nothing (Is Nothing) (shows 𝓤 H A Nothing) r (v ∷ []) (λ is.
         land ! (from ! (stop !)) (init ! 7 refl (nothing-lawful 𝓤 H A W .typed r _ is .0)) $
         -- the lifetime is ended, and the local is taken back at the last value
-        move ! (1 ∷ []) $ split ! $ lft-end ! tt $ move ! (0 ∷ 5 ∷ 3 ∷ []) $ use3 W (later (‵ (partAt R fullShare (zs .0) l₃ 0))) (ref-back 𝓤 H A W R (α ∷ []) δ (zs .0) l₃ 0) $ await ! tt $
-        use1 W (‵ (fat fullShare T′.mir l₃ 0 (val (zs .0))) ⊛ ‵ (R .own (zs .0) (val (zs .0) ∷ []))) (taken-out 𝓤 H A W l₃ (zs .0)) $ split ! $ move ! (1 ∷ []) $ peeks ! R (Is R) (shows 𝓤 H A R) (zs .0) _ (λ z-is.
+        move ! (1 ∷ []) $ split ! $ lft-end ! tt $ move ! (0 ∷ 5 ∷ 3 ∷ []) $ use3 W (later (‵ (partAt R fullShare (zs .0) l₃ 0)))
+        (ref-back 𝓤 H A W R (α ∷ []) δ (zs .0) l₃ 0) $ await ! tt $
+        use1 W (‵ (fat fullShare T′.mir l₃ 0 (val (zs .0))) ⊛ ‵ (R .own (zs .0) (val (zs .0) ∷ []))) (taken-out 𝓤 H A W l₃ (zs .0)) $ split ! $ move ! (1 ∷ []) $ peeks ! R (Is R)
+        (shows 𝓤 H A R) (zs .0) _ (λ z-is.
         -- [what the pair owns; _3; …; _5; …; _4; …; what frees _3; _2; …; _1; …; room for _0; …]
         assigns ! (of-opd ! (load ! (from ! (stop !)) (look ! 1 refl))) (from ! (stop !)) (init ! 14 refl (LL.lawful T.the-type T′.the-laws 𝓤 H A W .typed (zs .0) _ z-is .0)) $
         returns ! (look ! 14 refl) $ forget ! 1 refl $ forget ! 5 refl $ forget ! 7 refl $ forget ! 10 refl $ forget ! 12 refl $ forget ! 14 refl $
-        move ! (14 ∷ 15 ∷ []) $ free1 ! $ move ! (12 ∷ 13 ∷ []) $ free1 ! $ move ! (10 ∷ 11 ∷ []) $ free1 ! $ move ! (1 ∷ 9 ∷ []) $ free1 ! $ move ! (6 ∷ 7 ∷ []) $ free1 ! $ move ! (4 ∷ 5 ∷ []) $ free1 ! $ free0 ! $
+        move ! (14 ∷ 15 ∷ []) $ free1 ! $ move ! (12 ∷ 13 ∷ []) $ free1 ! $ move ! (10 ∷ 11 ∷ []) $ free1 ! $ move ! (1 ∷ 9 ∷ []) $ free1 ! $ move ! (6 ∷ 7 ∷ []) $ free1 ! $ move !
+        (4 ∷ 5 ∷ []) $ free1 ! $ free0 ! $
         keep ! (0 ∷ []) $ by ! (exits (zs .0) e)))))))))))))))
 
 module _ {M : Type 1} (𝓤 : URA M) (H : Heap 𝓤) (A : Atoms 𝓤) (W : Given 𝓤 H A) (mem : Memory → SProp 𝓤) (run : Routine → Fun 𝓤) where
   raise-walks : (C : Calls 𝓤 H) (Λ : Loops 𝓤 H) → FmC 𝓤 H (W .laws) C → Triple 𝓤 (C #raise-in-place) (Lent 𝓤 H A mem run)
       → Walks 𝓤 H A raise.ended stayed (WpFn 𝓤 H C Λ code.function) (raise.clauses 𝓤 H A mem run)
-  raise-walks C Λ fm known = walked 𝓤 H A raise.ended stayed (raise.clauses 𝓤 H A mem run) (WpFn 𝓤 H C Λ code.function) (λ κs. (LL.vals T.the-type T′.the-laws, (LL.vals T.the-type T′.the-laws, tt))) (λ κs. (LL.tells T.the-type T′.the-laws, (LL.tells T.the-type T′.the-laws, tt)))
+  raise-walks C Λ fm known = walked 𝓤 H A raise.ended stayed (raise.clauses 𝓤 H A mem run) (WpFn 𝓤 H C Λ code.function)
+      (λ κs. (LL.vals T.the-type T′.the-laws, (LL.vals T.the-type T′.the-laws, tt))) (λ κs. (LL.tells T.the-type T′.the-laws, (LL.tells T.the-type T′.the-laws, tt)))
       (λ κs qs bounds a _ are. via 𝓤 _ (fst∗ 𝓤 _ (emp 𝓤)) (walk 𝓤 H A W mem run (a .0) (a .1 .0) (are .0) (are .1 .0) C Λ fm known))
 
 raise-meets : {M : Type 1} (𝓤 : URA M) (H : Heap 𝓤) (A : Atoms 𝓤) (W : Given 𝓤 H A) (mem : Memory → SProp 𝓤) (run : Routine → Fun 𝓤) (𝓣 : Tables 𝓤 H)

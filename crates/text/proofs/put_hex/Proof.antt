@@ -30,7 +30,8 @@ loop-less : tie.Need-loop-less Inv-loop μ-loop
 loop-less c = search needs
 
 loop-again : tie.Need-loop-again Inv-loop μ-loop
-loop-again c = next-hex _ _ (c .before .before .before .before .before .loop-test .taken) (c .before .before .before .before .before .before .loop .inv) (c .before .before .put-hex-byte .ensures)
+loop-again c = next-hex _ _ (c .before .before .before .before .before .loop-test .taken) (c .before .before .before .before .before .before .loop .inv)
+    (c .before .before .put-hex-byte .ensures)
 
 same-length : tie.Need-same-length Inv-loop μ-loop
 same-length c = printed-length (c .before .loop .inv)

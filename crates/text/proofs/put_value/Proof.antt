@@ -19,7 +19,9 @@ same-length : tie.Need-same-length
 same-length c = search needs
 
 returns : tie.Need-returns
-returns c = value-even (c .before .before .before .before .before .before .before .args .v) _ (sym (alternating-of-bits _ _ (c .before .before .before .before .before .before .before .fits .v .sfits) (c .before .before .before .before .before .alternating .ensures))) (c .before .before .before .before .if1 .taken) (c .before .before .put-decimal .ensures)
+returns c = value-even (c .before .before .before .before .before .before .before .args .v) _
+    (sym (alternating-of-bits _ _ (c .before .before .before .before .before .before .before .fits .v .sfits) (c .before .before .before .before .before .alternating .ensures)))
+    (c .before .before .before .before .if1 .taken) (c .before .before .put-decimal .ensures)
 
 slice-aggregate-put-field : tie.Need-slice-aggregate-put-field
 slice-aggregate-put-field c = search needs
@@ -34,7 +36,9 @@ same-length-2 : tie.Need-same-length-2
 same-length-2 c = search needs
 
 returns-2 : tie.Need-returns-2
-returns-2 c = value-odd (c .before .before .before .before .before .before .before .before .args .v) _ (sym (alternating-of-bits _ _ (c .before .before .before .before .before .before .before .before .fits .v .sfits) (c .before .before .before .before .before .before .alternating .ensures))) (c .before .before .before .before .before .if1 .left) (c .before .before .put-field .ensures)
+returns-2 c = value-odd (c .before .before .before .before .before .before .before .before .args .v) _
+    (sym (alternating-of-bits _ _ (c .before .before .before .before .before .before .before .before .fits .v .sfits)
+    (c .before .before .before .before .before .before .alternating .ensures))) (c .before .before .before .before .before .if1 .left) (c .before .before .put-field .ensures)
 
 pub put-value-spec : {M : Type 1} → statement M
 put-value-spec =

@@ -6,7 +6,8 @@ use native.Mathlib.Omega.{arith}
 use Rattle.text.specs.Text.{Printed}
 
 -- the place and the bytes afterwards are settled, whatever the text
-pub only-one : (before : List ℕ) (at : ℕ) (text : List ℕ) {r s : ℕ} {after other : List ℕ} → Printed before at text r after → Printed before at text s other → (r ≡ s) × (after ≡ other)
+pub only-one : (before : List ℕ) (at : ℕ) (text : List ℕ) {r s : ℕ} {after other : List ℕ} → Printed before at text r after → Printed before at text s other
+    → (r ≡ s) × (after ≡ other)
 only-one before at text a b = (a .place ∙ sym (b .place), a .list ∙ sym (b .list))
 
 -- a byte that fits is written and counted, and one that doesn't is neither

@@ -14,13 +14,17 @@ enum-known-n : tie.Need-enum-known-n
 enum-known-n c = search needs
 
 judge-paired-requires : tie.Need-judge-paired-requires
-judge-paired-requires c κs = fit-all _ _ _ _ _ _ (c .before .before .before .before .before .before .before .pair-up .ensures) (λ i. c .before .before .before .before .before .before .before .before .before .before .before .before .shared-slice-known .given i .fits) _ (c .before .before .before .before .before .n .given .1)
+judge-paired-requires c κs = fit-all _ _ _ _ _ _ (c .before .before .before .before .before .before .before .pair-up .ensures)
+    (λ i. c .before .before .before .before .before .before .before .before .before .before .before .before .shared-slice-known .given i .fits) _
+    (c .before .before .before .before .before .n .given .1)
 
 returns : tie.Need-returns
 returns c = judges-fault _ _ _ _ _ _ (c .before .before .before .pair-up .ensures) _ _ (c .before .k .given .1)
 
 returns-2 : tie.Need-returns-2
-returns-2 c = judges-all _ _ _ _ _ _ (c .before .before .before .before .before .before .before .before .pair-up .ensures) (λ i. c .before .before .before .before .before .before .before .before .before .before .before .before .before .shared-slice-known .given i .fits) _ (c .before .before .before .before .before .before .n .given .1) (c .judge-paired .result) (c .judge-paired .ensures)
+returns-2 c = judges-all _ _ _ _ _ _ (c .before .before .before .before .before .before .before .before .pair-up .ensures)
+    (λ i. c .before .before .before .before .before .before .before .before .before .before .before .before .before .shared-slice-known .given i .fits) _
+    (c .before .before .before .before .before .before .n .given .1) (c .judge-paired .result) (c .judge-paired .ensures)
 
 pub judge-spec : {M : Type 1} → statement M
 judge-spec =

@@ -24,7 +24,11 @@ element-copy-out-if1 : tie.Need-element-copy-out-if1 Inv-loop μ-loop
 element-copy-out-if1 c = search needs
 
 returns : tie.Need-returns Inv-loop μ-loop
-returns c = record { within = omega arith; below = c .before .before .before .before .loop .inv .1; marked = λ b z. c .if1 .taken (ap (λ (k : ℕ). getD (c .before .before .before .before .before .args .bad .now) k 0) (c .before .before .wide-cell .ensures .0) ∙ z) }
+returns c = record {
+  within = omega arith;
+  below = c .before .before .before .before .loop .inv .1;
+  marked = λ b z. c .if1 .taken (ap (λ (k : ℕ). getD (c .before .before .before .before .before .args .bad .now) k 0) (c .before .before .wide-cell .ensures .0) ∙ z);
+}
 
 add-c : tie.Need-add-c Inv-loop μ-loop
 add-c c = search needs
@@ -33,7 +37,11 @@ loop-less : tie.Need-loop-less Inv-loop μ-loop
 loop-less c = search needs
 
 loop-again : tie.Need-loop-again Inv-loop μ-loop
-loop-again c = (omega arith, below-more _ _ (c .before .before .before .before .loop .inv .1) (ap (λ (k : ℕ). getD (c .before .before .before .before .before .args .bad .now) k 0) (sym (c .before .before .wide-cell .ensures .0)) ∙ c .if1 .left))
+loop-again c = (
+  omega arith,
+  below-more _ _ (c .before .before .before .before .loop .inv .1)
+      (ap (λ (k : ℕ). getD (c .before .before .before .before .before .args .bad .now) k 0) (sym (c .before .before .wide-cell .ensures .0)) ∙ c .if1 .left),
+)
 
 returns-2 : tie.Need-returns-2 Inv-loop μ-loop
 returns-2 c = record { within = omega arith; below = λ d l. c .before .loop .inv .1 d (omega arith); marked = λ b. absurd (omega arith) }

@@ -46,7 +46,10 @@ element-write-reach : tie.Need-element-write-reach
 element-write-reach c = search needs
 
 returns : tie.Need-returns
-returns c = (rw (c .greater .ensures, c .before .before .before .before .before .before .wide-cell .ensures .0), rw (c .before .before .mark-of .ensures, c .before .before .before .before .before .before .wide-cell .ensures .0))
+returns c = (
+  rw (c .greater .ensures, c .before .before .before .before .before .before .wide-cell .ensures .0),
+  rw (c .before .before .mark-of .ensures, c .before .before .before .before .before .before .wide-cell .ensures .0),
+)
 
 pub meet-spec : {M : Type 1} → statement M
 meet-spec =

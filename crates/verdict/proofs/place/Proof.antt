@@ -35,10 +35,14 @@ mul-at : tie.Need-mul-at
 mul-at c = search needs
 
 element-write-at : tie.Need-element-write-at
-element-write-at c = scatter-inside _ _ _ _ _ _ (c .before .before .before .before .before .before .before .pre .1) (c .before .before .before .before .before .before .before .pre .2) _ (c .before .before .before .before .before .before .before .pre .0) (rw (c .before .wide .ensures .0, c .before .before .place-of .ensures, c .before .before .before .lesser .ensures))
+element-write-at c = scatter-inside _ _ _ _ _ _ (c .before .before .before .before .before .before .before .pre .1)
+    (c .before .before .before .before .before .before .before .pre .2) _ (c .before .before .before .before .before .before .before .pre .0)
+    (rw (c .before .wide .ensures .0, c .before .before .place-of .ensures, c .before .before .before .lesser .ensures))
 
 returns : tie.Need-returns
-returns c = scatter-on _ _ _ _ _ _ (c .before .before .before .before .before .before .before .pre .1) (c .before .before .before .before .before .before .before .pre .2) _ _ (c .before .before .before .before .before .before .before .pre .0) (rw (c .before .wide .ensures .0, c .before .before .place-of .ensures, c .before .before .before .lesser .ensures)) (c .narrow .ensures)
+returns c = scatter-on _ _ _ _ _ _ (c .before .before .before .before .before .before .before .pre .1) (c .before .before .before .before .before .before .before .pre .2) _ _
+    (c .before .before .before .before .before .before .before .pre .0)
+    (rw (c .before .wide .ensures .0, c .before .before .place-of .ensures, c .before .before .before .lesser .ensures)) (c .narrow .ensures)
 
 pub place-spec : {M : Type 1} → statement M
 place-spec =

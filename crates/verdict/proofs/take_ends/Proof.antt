@@ -18,7 +18,11 @@ loop-holds : tie.Need-loop-holds Inv-loop μ-loop
 loop-holds c = (omega arith, c .pre .1)
 
 take-entry-requires : tie.Need-take-entry-requires Inv-loop μ-loop
-take-entry-requires c κs = record { ready = c .before .before .before .before .before .before .pre .0; below = c .before .before .before .before .loop-test .taken; tally = c .before .before .before .before .before .loop .inv .1 }
+take-entry-requires c κs = record {
+  ready = c .before .before .before .before .before .before .pre .0;
+  below = c .before .before .before .before .loop-test .taken;
+  tally = c .before .before .before .before .before .loop .inv .1;
+}
 
 add-p : tie.Need-add-p Inv-loop μ-loop
 add-p c = search needs

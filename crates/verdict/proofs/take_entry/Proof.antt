@@ -11,7 +11,11 @@ element-copy-out-if1 : tie.Need-element-copy-out-if1
 element-copy-out-if1 c = small _ _ _ _ _ _ _ _ _ (c .before .before .pre)
 
 take-read-requires : tie.Need-take-read-requires
-take-read-requires c κs = (c .before .before .before .before .if1 .taken, lowered-read _ _ _ _ _ _ _ _ _ (c .before .before .before .before .before .before .before .before .pre) _ (c .before .before .before .before .before .before .take-done .ensures) (c .before .before .before .before .if1 .taken))
+take-read-requires c κs = (
+  c .before .before .before .before .if1 .taken,
+  lowered-read _ _ _ _ _ _ _ _ _ (c .before .before .before .before .before .before .before .before .pre) _
+      (c .before .before .before .before .before .before .take-done .ensures) (c .before .before .before .before .if1 .taken),
+)
 
 returns : tie.Need-returns
 returns c = search needs

@@ -21,7 +21,8 @@ meet-requires : tie.Need-meet-requires
 meet-requires c κs = visit-small _ _ _ _ _ (c .before .before .before .before .before .pre .1) _ (c .before .before .if1 .left)
 
 returns-2 : tie.Need-returns-2
-returns-2 c = visit-on _ _ _ _ _ (c .before .before .before .before .before .before .pre .1) _ _ _ _ (c .before .before .before .before .wide .ensures .0) (c .before .before .before .if1 .left) _ _ (c .before .before .before .before .before .before .pre .0) (c .meet .ensures .0) (c .meet .ensures .1)
+returns-2 c = visit-on _ _ _ _ _ (c .before .before .before .before .before .before .pre .1) _ _ _ _ (c .before .before .before .before .wide .ensures .0)
+    (c .before .before .before .if1 .left) _ _ (c .before .before .before .before .before .before .pre .0) (c .meet .ensures .0) (c .meet .ensures .1)
 
 pub visit-spec : {M : Type 1} → statement M
 visit-spec =

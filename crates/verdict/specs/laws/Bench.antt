@@ -82,7 +82,8 @@ twelve-verdict = no-other sheetBytes refl saysLawful twelve-judged
 -- ---- with last byte 00: unlawful cell 2
 
 taken-stale : takenFor stale ≡ entries bad
-unfolding takenFor distinct distinctFrom repeats askedAmong asksFor bytesHeld heldFrom enter before faultAfter standingAfter entryAt fieldsAt andThen upTo numberAt numberOf valueOf lastOf taken alternatingOf signedOf
+unfolding takenFor distinct distinctFrom repeats askedAmong asksFor bytesHeld heldFrom enter before faultAfter standingAfter entryAt fieldsAt andThen upTo numberAt numberOf valueOf
+    lastOf taken alternatingOf signedOf
 taken-stale = refl
 
 pub stale-judged : Judges (takenFor stale) (saysUnlawful (record { 0 = 2 }))

@@ -95,7 +95,8 @@ says-repeats a n earlier (WriteAsked client cell v) r s =
         (λ b. p .no refl (b .0, (b .1 .0, there (b .0) (b .1 .1)))) (k .again))
 
 -- none asks again: nothing is refused
-distinct-from : (a : Arrays) (n : ℕ) (earlier es : List Entry) (whole : Held) → EarlierShow a n earlier → AllShow a n es → Fresh a (n + length es) → distinctFrom earlier n es whole ≡ whole
+distinct-from : (a : Arrays) (n : ℕ) (earlier es : List Entry) (whole : Held) → EarlierShow a n earlier → AllShow a n es → Fresh a (n + length es)
+    → distinctFrom earlier n es whole ≡ whole
 unfolding distinctFrom
 distinct-from a n earlier [] whole r s f = refl
 distinct-from a n earlier (e ∷ es) whole r s f =

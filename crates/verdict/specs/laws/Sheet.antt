@@ -10,15 +10,18 @@ use Rattle.verdict.specs.Verdict.{asksFor, askedAmong, repeats, distinct
 
 -- the first entry again: 5 is written to cell 2 twice
 pub twice : takenFor (sheetBytes ++ (0x01 ∷ 0x00 ∷ 0x02 ∷ 0x0A ∷ [])) ≡ fault 29 4
-unfolding takenFor distinct distinctFrom repeats askedAmong asksFor bytesHeld heldFrom enter before faultAfter standingAfter entryAt fieldsAt andThen upTo numberAt numberOf valueOf lastOf taken alternatingOf signedOf
+unfolding takenFor distinct distinctFrom repeats askedAmong asksFor bytesHeld heldFrom enter before faultAfter standingAfter entryAt fieldsAt andThen upTo numberAt numberOf valueOf
+    lastOf taken alternatingOf signedOf
 twice = refl
 
 -- zero is written
 pub zero-written : takenFor (0x01 ∷ 0x00 ∷ 0x02 ∷ 0x00 ∷ []) ≡ fault 29 0
-unfolding takenFor distinct distinctFrom repeats askedAmong asksFor bytesHeld heldFrom enter before faultAfter standingAfter entryAt fieldsAt andThen upTo numberAt numberOf valueOf lastOf taken alternatingOf signedOf
+unfolding takenFor distinct distinctFrom repeats askedAmong asksFor bytesHeld heldFrom enter before faultAfter standingAfter entryAt fieldsAt andThen upTo numberAt numberOf valueOf
+    lastOf taken alternatingOf signedOf
 zero-written = refl
 
 -- a fault of the bytes comes first: they end in the last entry
 pub torn : takenFor (0x01 ∷ 0x00 ∷ 0x02 ∷ 0x00 ∷ 0x03 ∷ []) ≡ fault 21 1
-unfolding takenFor distinct distinctFrom repeats askedAmong asksFor bytesHeld heldFrom enter before faultAfter standingAfter entryAt fieldsAt andThen upTo numberAt numberOf valueOf lastOf taken alternatingOf signedOf
+unfolding takenFor distinct distinctFrom repeats askedAmong asksFor bytesHeld heldFrom enter before faultAfter standingAfter entryAt fieldsAt andThen upTo numberAt numberOf valueOf
+    lastOf taken alternatingOf signedOf
 torn = refl

@@ -15,7 +15,8 @@ lines-known-requires : tie.Need-lines-known-requires
 lines-known-requires c κs = search needs
 
 returns-2 : tie.Need-returns-2
-returns-2 c = count-unknown _ _ _ (c .before .before .if1 .left) (c .before .before .before .before .before .pre .1 .0) (c .before .lines-known .ensures) (not-true _ (c .if2 .taken))
+returns-2 c = count-unknown _ _ _ (c .before .before .if1 .left) (c .before .before .before .before .before .pre .1 .0) (c .before .lines-known .ensures)
+    (not-true _ (c .if2 .taken))
 
 shared-slice-read-result : tie.Need-shared-slice-read-result
 shared-slice-read-result c = search needs
@@ -24,7 +25,8 @@ cast-result : tie.Need-cast-result
 cast-result c = search needs
 
 returns-3 : tie.Need-returns-3
-returns-3 c = count-known _ _ _ (c .before .before .before .if1 .left) (c .before .before .before .before .before .before .pre .1 .0) (c .before .before .lines-known .ensures) (not-false _ (c .before .if2 .left))
+returns-3 c = count-known _ _ _ (c .before .before .before .if1 .left) (c .before .before .before .before .before .before .pre .1 .0) (c .before .before .lines-known .ensures)
+    (not-false _ (c .before .if2 .left))
 
 pub count-in-spec : {M : Type 1} → statement M
 count-in-spec =

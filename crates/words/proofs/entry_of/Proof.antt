@@ -19,7 +19,12 @@ returns-2 c = rw (signed-of-bits (c .before .signed .result) _ (search needs) (c
 
 returns-3 : tie.Need-returns-3
 unfolding entryOf
-returns-3 c = rw (signed-of-bits (c .before .before .signed .result) _ (search needs) (c .before .before .signed .ensures), ne-eqb _ _ (c .before .before .before .if1 .left), ne-eqb _ _ (c .before .if2 .left), eq-eqb _ _ (c .if3 .taken))
+returns-3 c = rw (
+  signed-of-bits (c .before .before .signed .result) _ (search needs) (c .before .before .signed .ensures),
+  ne-eqb _ _ (c .before .before .before .if1 .left),
+  ne-eqb _ _ (c .before .if2 .left),
+  eq-eqb _ _ (c .if3 .taken),
+)
 
 returns-4 : tie.Need-returns-4
 unfolding entryOf

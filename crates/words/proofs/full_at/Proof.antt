@@ -54,7 +54,13 @@ cast-t16 c = search needs
 
 returns : tie.Need-returns
 unfolding fullIn
-returns c = rw (c .before .body-of .ensures, c .before .before .before .pair-at .ensures, c .before .before .before .before .byte-at3 .ensures, c .before .before .before .before .before .byte-at2 .ensures, c .before .before .before .before .before .before .byte-at .ensures)
+returns c = rw (
+  c .before .body-of .ensures,
+  c .before .before .before .pair-at .ensures,
+  c .before .before .before .before .byte-at3 .ensures,
+  c .before .before .before .before .before .byte-at2 .ensures,
+  c .before .before .before .before .before .before .byte-at .ensures,
+)
 
 pub full-at-spec : {M : Type 1} → statement M
 full-at-spec =

@@ -49,14 +49,24 @@ full-at-requires c κs = (search needs, message-op _ _ _ (sym (c .before .messag
 
 returns-2 : tie.Need-returns-2
 unfolding heldOf
-returns-2 c = rw (c .full-at .ensures, ne-eqb _ _ (c .before .before .before .before .before .before .if1 .left), sym (c .before .before .message-known .ensures) ∙ c .before .if2 .taken)
+returns-2 c = rw (
+  c .full-at .ensures,
+  ne-eqb _ _ (c .before .before .before .before .before .before .if1 .left),
+  sym (c .before .before .message-known .ensures)
+      ∙ c .before .if2 .taken,
+)
 
 stray-held-requires : tie.Need-stray-held-requires
 stray-held-requires c κs = search needs
 
 returns-3 : tie.Need-returns-3
 unfolding heldOf
-returns-3 c = rw (c .stray-held .ensures, ne-eqb _ _ (c .before .before .before .before .before .before .if1 .left), sym (c .before .before .message-known .ensures) ∙ c .before .if2 .left)
+returns-3 c = rw (
+  c .stray-held .ensures,
+  ne-eqb _ _ (c .before .before .before .before .before .before .if1 .left),
+  sym (c .before .before .message-known .ensures)
+      ∙ c .before .if2 .left,
+)
 
 pub held-at-spec : {M : Type 1} → statement M
 held-at-spec =

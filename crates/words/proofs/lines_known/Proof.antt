@@ -56,7 +56,8 @@ entry-known-requires c κs = search needs
 
 returns : tie.Need-returns Inv-loop μ-loop
 unfolding lineKnown
-returns c = sym (all-fail _ (c .before .before .before .before .before .before .loop .i) _ (c .before .before .before .before .before .loop-test .taken) (sym (c .before .entry-known .ensures) ∙ not-true _ (c .if1 .taken)))
+returns c = sym (all-fail _ (c .before .before .before .before .before .before .loop .i) _ (c .before .before .before .before .before .loop-test .taken)
+    (sym (c .before .entry-known .ensures) ∙ not-true _ (c .if1 .taken)))
 
 add-i : tie.Need-add-i Inv-loop μ-loop
 add-i c = search needs
@@ -66,7 +67,11 @@ loop-less c = search needs
 
 loop-again : tie.Need-loop-again Inv-loop μ-loop
 unfolding lineKnown
-loop-again c = (search needs, all-next (c .before .before .before .before .before .before .loop .i) _ (c .before .before .before .before .before .before .loop .inv .1) (sym (c .before .entry-known .ensures) ∙ not-false _ (c .if1 .left)))
+loop-again c = (
+  search needs,
+  all-next (c .before .before .before .before .before .before .loop .i) _ (c .before .before .before .before .before .before .loop .inv .1)
+      (sym (c .before .entry-known .ensures) ∙ not-false _ (c .if1 .left)),
+)
 
 returns-2 : tie.Need-returns-2 Inv-loop μ-loop
 returns-2 c = all-end _ (c .before .loop .i) _ (c .loop-test .left) (c .before .loop .inv .0) (c .before .loop .inv .1)

@@ -33,7 +33,16 @@ lines-of-requires c κs = search needs
 
 returns : tie.Need-returns
 unfolding rackOf
-returns c = rw (c .lines-of .ensures, c .before .wire-of .ensures, c .before .before .pairs-of .ensures, c .before .before .before .parties-of .ensures, c .before .before .before .before .count-in .ensures, c .before .before .before .before .before .count-of .ensures .0, c .before .before .before .before .before .before .power-of .ensures, c .before .before .before .before .before .before .before .before .sizes-of .ensures)
+returns c = rw (
+  c .lines-of .ensures,
+  c .before .wire-of .ensures,
+  c .before .before .pairs-of .ensures,
+  c .before .before .before .parties-of .ensures,
+  c .before .before .before .before .count-in .ensures,
+  c .before .before .before .before .before .count-of .ensures .0,
+  c .before .before .before .before .before .before .power-of .ensures,
+  c .before .before .before .before .before .before .before .before .sizes-of .ensures,
+)
 
 pub load-spec : {M : Type 1} → statement M
 load-spec =

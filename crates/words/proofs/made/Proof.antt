@@ -30,7 +30,9 @@ same-length : tie.Need-same-length
 same-length c = search needs
 
 returns-2 : tie.Need-returns-2
-returns-2 c = made-fit _ _ _ _ _ _ _ _ (c .before .before .before .before .before .before .before .before .before .before .before .if1 .left) (c .before .before .before .before .before .before .before .before .before .before .made .ensures) (c .before .before .before .before .before .before .before .before .clear .ensures) (c .before .before .before .store .ensures) (c .answered2 .ensures)
+returns-2 c = made-fit _ _ _ _ _ _ _ _ (c .before .before .before .before .before .before .before .before .before .before .before .if1 .left)
+    (c .before .before .before .before .before .before .before .before .before .before .made .ensures)
+    (c .before .before .before .before .before .before .before .before .clear .ensures) (c .before .before .before .store .ensures) (c .answered2 .ensures)
 
 pub made-spec : {M : Type 1} → statement M
 made-spec =

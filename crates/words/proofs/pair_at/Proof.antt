@@ -31,7 +31,10 @@ shared-slice-read-t9 c = search needs
 
 returns : tie.Need-returns
 unfolding pairIn
-returns c = rw (signed-of-bits (c .before .signed .result) _ (c .before .before .shared-slice-known2 .given _ .fits) (c .before .signed .ensures), c .before .before .before .byte-at .ensures)
+returns c = rw (
+  signed-of-bits (c .before .signed .result) _ (c .before .before .shared-slice-known2 .given _ .fits) (c .before .signed .ensures),
+  c .before .before .before .byte-at .ensures,
+)
 
 pub pair-at-spec : {M : Type 1} → statement M
 pair-at-spec =

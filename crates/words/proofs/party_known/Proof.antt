@@ -19,11 +19,21 @@ returns-3 c = rw (lt-ltb _ _ (fewer (c .before .before .if1 .left)), lt-ltb _ _ 
 
 returns-4 : tie.Need-returns-4
 unfolding partyKnown
-returns-4 c = rw (lt-ltb _ _ (fewer (c .before .before .before .if1 .left)), lt-ltb _ _ (fewer (c .before .before .if2 .left)), lt-ltb _ _ (fewer (c .before .if3 .left)), eq-eqb _ _ (c .if4 .taken))
+returns-4 c = rw (
+  lt-ltb _ _ (fewer (c .before .before .before .if1 .left)),
+  lt-ltb _ _ (fewer (c .before .before .if2 .left)),
+  lt-ltb _ _ (fewer (c .before .if3 .left)),
+  eq-eqb _ _ (c .if4 .taken),
+)
 
 returns-5 : tie.Need-returns-5
 unfolding partyKnown
-returns-5 c = rw (lt-ltb _ _ (fewer (c .before .before .before .if1 .left)), lt-ltb _ _ (fewer (c .before .before .if2 .left)), lt-ltb _ _ (fewer (c .before .if3 .left)), ne-eqb _ _ (c .if4 .left))
+returns-5 c = rw (
+  lt-ltb _ _ (fewer (c .before .before .before .if1 .left)),
+  lt-ltb _ _ (fewer (c .before .before .if2 .left)),
+  lt-ltb _ _ (fewer (c .before .if3 .left)),
+  ne-eqb _ _ (c .if4 .left),
+)
 
 pub party-known-spec : {M : Type 1} → statement M
 party-known-spec = tie.close (tie.spec returns returns-2 returns-3 returns-4 returns-5)

@@ -23,14 +23,19 @@ cast-put-pairs-2 : tie.Need-cast-put-pairs-2
 cast-put-pairs-2 c = search needs
 
 put-pairs-requires : tie.Need-put-pairs-requires
-put-pairs-requires c κs = (search needs, omega (arith, sound-of _ (c .before .before .before .before .before .before .before .before .before .before .before .before .pre .1) .sizes .replicas))
+put-pairs-requires c κs = (
+  search needs,
+  omega (arith, sound-of _ (c .before .before .before .before .before .before .before .before .before .before .before .before .pre .1) .sizes .replicas),
+)
 
 same-length : tie.Need-same-length
 same-length c = search needs
 
 returns : tie.Need-returns
 unfolding pairsPut partiesPut
-returns c = c .before .before .put-pairs .ensures ∙ ap (pairsPut (c .before .before .before .before .before .before .before .before .before .before .before .before .before .before .before .args .rack)) (c .before .before .before .before .before .before .before .before .before .put-parties .ensures)
+returns c = c .before .before .put-pairs .ensures
+    ∙ ap (pairsPut (c .before .before .before .before .before .before .before .before .before .before .before .before .before .before .before .args .rack))
+    (c .before .before .before .before .before .before .before .before .before .put-parties .ensures)
 
 pub put-members-spec : {M : Type 1} → statement M
 put-members-spec =

@@ -35,7 +35,11 @@ same-length : tie.Need-same-length
 same-length c = search needs
 
 returns : tie.Need-returns
-returns c = message-written (c .before .before .before .before .before .before .before .before .before .before .before .before .before .before .before .before .before .before .args .words .now) _ _ (c .before .before .before .before .before .before .before .before .before .before .before .before .before .before .before .before .before .before .args .at) (c .before .before .before .before .before .before .before .before .before .before .before .before .before .before .before .before .before .before .args .m) _ (c .before .before .before .before .before .before .before .before .before .before .before .before .before .body-kind .ensures) (c .before .before .before .before .before .before .put .ensures) (c .before .before .put-body .ensures)
+returns c = message-written (c .before .before .before .before .before .before .before .before .before .before .before .before .before .before .before .before .before .before .args
+    .words .now) _ _ (c .before .before .before .before .before .before .before .before .before .before .before .before .before .before .before .before .before .before .args .at)
+    (c .before .before .before .before .before .before .before .before .before .before .before .before .before .before .before .before .before .before .args .m) _
+    (c .before .before .before .before .before .before .before .before .before .before .before .before .before .body-kind .ensures)
+    (c .before .before .before .before .before .before .put .ensures) (c .before .before .put-body .ensures)
 
 pub put-message-spec : {M : Type 1} → statement M
 put-message-spec =

@@ -44,7 +44,11 @@ same-length-2 c = search needs
 
 returns-2 : tie.Need-returns-2
 unfolding openWords
-returns-2 c = simp (c .before .before .before .before .before .before .before .before .goal .given .1, alternating-of-bits (c .before .before .before .before .before .before .before .before .goal .given .0 .0) (c .before .before .before .before .before .alternating .result) (search needs) (c .before .before .before .before .before .alternating .ensures)) (c .before .before .put2 .ensures)
+returns-2 c = simp (
+  c .before .before .before .before .before .before .before .before .goal .given .1,
+  alternating-of-bits (c .before .before .before .before .before .before .before .before .goal .given .0 .0) (c .before .before .before .before .before .alternating .result)
+      (search needs) (c .before .before .before .before .before .alternating .ensures),
+) (c .before .before .put2 .ensures)
 
 pub put-open-spec : {M : Type 1} → statement M
 put-open-spec =

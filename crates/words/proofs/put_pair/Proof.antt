@@ -22,7 +22,9 @@ same-length c = search needs
 
 returns : tie.Need-returns
 unfolding pairWords
-returns c = simp (alternating-of-bits (c .before .before .before .before .before .before .before .before .before .before .args .pair .value) (c .before .before .before .before .before .alternating .result) (search needs) (c .before .before .before .before .before .alternating .ensures)) (c .before .before .put .ensures)
+returns c = simp (alternating-of-bits (c .before .before .before .before .before .before .before .before .before .before .args .pair .value)
+    (c .before .before .before .before .before .alternating .result) (search needs) (c .before .before .before .before .before .alternating .ensures))
+    (c .before .before .put .ensures)
 
 pub put-pair-spec : {M : Type 1} → statement M
 put-pair-spec =

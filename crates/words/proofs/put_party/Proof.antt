@@ -26,7 +26,11 @@ same-length : tie.Need-same-length
 same-length c = search needs
 
 returns : tie.Need-returns
-returns c = party-written (c .before .before .before .before .before .before .before .before .before .before .before .before .args .words .now) _ _ (c .before .before .before .before .before .before .before .before .before .before .before .before .args .at) (c .before .before .before .before .before .before .before .before .before .before .before .before .args .party) _ (c .before .before .before .before .before .before .before .before .before .before .flag .ensures) (c .before .before .before .before .before .before .put .ensures) (c .before .before .put-work .ensures)
+returns c = party-written (c .before .before .before .before .before .before .before .before .before .before .before .before .args .words .now) _ _
+    (c .before .before .before .before .before .before .before .before .before .before .before .before .args .at)
+    (c .before .before .before .before .before .before .before .before .before .before .before .before .args .party) _
+    (c .before .before .before .before .before .before .before .before .before .before .flag .ensures) (c .before .before .before .before .before .before .put .ensures)
+    (c .before .before .put-work .ensures)
 
 pub put-party-spec : {M : Type 1} → statement M
 put-party-spec =

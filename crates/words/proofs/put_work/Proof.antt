@@ -49,13 +49,27 @@ same-length-2 : tie.Need-same-length-2
 same-length-2 c = search needs
 
 returns-2 : tie.Need-returns-2
-returns-2 c = asking-written (c .before .before .before .before .before .before .before .before .before .before .before .before .args .words .now) _ _ (c .before .before .before .before .before .before .before .before .before .before .before .before .args .at) _ (c .before .before .before .before .before .before .before .before .before .work .given .0 .0) (c .before .before .before .before .before .before .before .before .before .work .given .0 .1 .0) (c .before .before .before .before .before .before .before .before .before .work .given .0 .1 .1 .0) (c .before .before .before .before .before .before .before .before .before .work .given .0 .1 .1 .1 .0) (c .before .before .before .before .before .before .before .before .before .work .given .1) (c .before .before .before .before .before .before .put-open .ensures) (c .before .before .put-told .ensures)
+returns-2 c = asking-written (c .before .before .before .before .before .before .before .before .before .before .before .before .args .words .now) _ _
+    (c .before .before .before .before .before .before .before .before .before .before .before .before .args .at) _
+    (c .before .before .before .before .before .before .before .before .before .work .given .0 .0)
+    (c .before .before .before .before .before .before .before .before .before .work .given .0 .1 .0)
+    (c .before .before .before .before .before .before .before .before .before .work .given .0 .1 .1 .0)
+    (c .before .before .before .before .before .before .before .before .before .work .given .0 .1 .1 .1 .0)
+    (c .before .before .before .before .before .before .before .before .before .work .given .1) (c .before .before .before .before .before .before .put-open .ensures)
+    (c .before .before .put-told .ensures)
 
 same-length-3 : tie.Need-same-length-3
 same-length-3 c = search needs
 
 returns-3 : tie.Need-returns-3
-returns-3 c = keeping-written (c .before .before .before .before .before .before .before .before .before .before .before .before .args .words .now) _ _ (c .before .before .before .before .before .before .before .before .before .before .before .before .args .at) _ (c .before .before .before .before .before .before .before .before .before .work2 .given .0 .0) (c .before .before .before .before .before .before .before .before .before .work2 .given .0 .1 .0) (c .before .before .before .before .before .before .before .before .before .work2 .given .0 .1 .1 .0) (c .before .before .before .before .before .before .before .before .before .work2 .given .0 .1 .1 .1 .0) (c .before .before .before .before .before .before .before .before .before .work2 .given .1) (c .before .before .before .before .before .before .put-open2 .ensures) (c .before .before .put-pair .ensures)
+returns-3 c = keeping-written (c .before .before .before .before .before .before .before .before .before .before .before .before .args .words .now) _ _
+    (c .before .before .before .before .before .before .before .before .before .before .before .before .args .at) _
+    (c .before .before .before .before .before .before .before .before .before .work2 .given .0 .0)
+    (c .before .before .before .before .before .before .before .before .before .work2 .given .0 .1 .0)
+    (c .before .before .before .before .before .before .before .before .before .work2 .given .0 .1 .1 .0)
+    (c .before .before .before .before .before .before .before .before .before .work2 .given .0 .1 .1 .1 .0)
+    (c .before .before .before .before .before .before .before .before .before .work2 .given .1) (c .before .before .before .before .before .before .put-open2 .ensures)
+    (c .before .before .put-pair .ensures)
 
 pub put-work-spec : {M : Type 1} → statement M
 put-work-spec =

@@ -23,7 +23,8 @@ same-length : tie.Need-same-length
 same-length c = search needs
 
 returns-2 : tie.Need-returns-2
-returns-2 c = run-none _ _ _ _ _ _ (c .before .before .before .before .before .before .if1 .left) (c .before .before .before .before .load .ensures) (c .before .before .before .run .ensures) (c .before .if2 .taken) (c .answered2 .ensures)
+returns-2 c = run-none _ _ _ _ _ _ (c .before .before .before .before .before .before .if1 .left) (c .before .before .before .before .load .ensures)
+    (c .before .before .before .run .ensures) (c .before .if2 .taken) (c .answered2 .ensures)
 
 store-requires : tie.Need-store-requires
 store-requires c κs = (search needs, run-sound _ _ _ _ (c .before .before .before .before .run .ensures) (c .before .before .if2 .left))
@@ -35,7 +36,9 @@ same-length-2 : tie.Need-same-length-2
 same-length-2 c = search needs
 
 returns-3 : tie.Need-returns-3
-returns-3 c = run-some _ _ _ _ _ _ _ (c .before .before .before .before .before .before .before .before .before .before .before .if1 .left) (c .before .before .before .before .before .before .before .before .before .load .ensures) (c .before .before .before .before .before .before .before .before .run .ensures) (c .before .before .before .before .before .before .if2 .left) (c .before .before .before .store .ensures) (c .answered3 .ensures)
+returns-3 c = run-some _ _ _ _ _ _ _ (c .before .before .before .before .before .before .before .before .before .before .before .if1 .left)
+    (c .before .before .before .before .before .before .before .before .before .load .ensures) (c .before .before .before .before .before .before .before .before .run .ensures)
+    (c .before .before .before .before .before .before .if2 .left) (c .before .before .before .store .ensures) (c .answered3 .ensures)
 
 pub run-spec : {M : Type 1} → statement M
 run-spec =

@@ -17,14 +17,20 @@ put-wire-requires : tie.Need-put-wire-requires
 put-wire-requires c κs = search needs
 
 put-lines-requires : tie.Need-put-lines-requires
-put-lines-requires c κs = (search needs, omega (arith, sound-of _ (c .before .before .before .before .before .before .before .before .before .before .before .before .before .before .before .before .pre .1) .entries))
+put-lines-requires c κs = (
+  search needs,
+  omega (arith, sound-of _ (c .before .before .before .before .before .before .before .before .before .before .before .before .before .before .before .before .pre .1) .entries),
+)
 
 same-length : tie.Need-same-length
 same-length c = search needs
 
 returns : tie.Need-returns
 unfolding writtenOf recordPut wirePut
-returns c = written (c .before .before .before .before .before .before .before .before .before .before .before .before .before .before .before .before .before .before .before .args .rack) _ _ _ _ _ (c .before .before .before .before .before .before .before .before .before .before .before .before .before .before .before .before .put-head .ensures) (c .before .before .before .before .before .before .before .before .before .before .before .before .put-members .ensures) (c .before .before .before .before .before .before .before .put-wire .ensures) (c .before .before .put-lines .ensures)
+returns c = written (c .before .before .before .before .before .before .before .before .before .before .before .before .before .before .before .before .before .before .before .args
+    .rack) _ _ _ _ _ (c .before .before .before .before .before .before .before .before .before .before .before .before .before .before .before .before .put-head .ensures)
+    (c .before .before .before .before .before .before .before .before .before .before .before .before .put-members .ensures)
+    (c .before .before .before .before .before .before .before .put-wire .ensures) (c .before .before .put-lines .ensures)
 
 pub store-spec : {M : Type 1} → statement M
 store-spec =

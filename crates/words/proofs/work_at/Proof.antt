@@ -71,7 +71,12 @@ work-of-requires c κs = search needs
 
 returns-2 : tie.Need-returns-2
 unfolding workIn
-returns-2 c = rw (c .work-of .ensures, c .before .before .before .before .pair-at .ensures, c .before .before .before .before .before .goal-of .ensures, ne-eqb _ _ (c .before .before .before .before .before .before .before .before .if1 .left))
+returns-2 c = rw (
+  c .work-of .ensures,
+  c .before .before .before .before .pair-at .ensures,
+  c .before .before .before .before .before .goal-of .ensures,
+  ne-eqb _ _ (c .before .before .before .before .before .before .before .before .if1 .left),
+)
 
 pub work-at-spec : {M : Type 1} → statement M
 work-at-spec =

@@ -44,7 +44,8 @@ unfolding rowsHeld
 loop-holds c = rw (c .fresh .ensures) (record { left = 2048; limit = refl; same = refl }, omega arith)
 
 returns : tie.Need-returns Inv-loop μ-loop
-returns c = counts-full _ _ _ _ _ _ _ _ (c .before .before .loop .inv .0) (more-rows (c .before .before .before .before .before .args .rows .now) _ (c .before .loop-test .taken)) (c .if1 .taken) ∙ sym (measure-tally _)
+returns c = counts-full _ _ _ _ _ _ _ _ (c .before .before .loop .inv .0) (more-rows (c .before .before .before .before .before .args .rows .now) _ (c .before .loop-test .taken))
+    (c .if1 .taken) ∙ sym (measure-tally _)
 
 mul-row-at : tie.Need-mul-row-at Inv-loop μ-loop
 mul-row-at c = search needs
@@ -56,7 +57,9 @@ enum-known-k : tie.Need-enum-known-k Inv-loop μ-loop
 enum-known-k c = search needs
 
 returns-2 : tie.Need-returns-2 Inv-loop μ-loop
-returns-2 c = counts-unread _ _ _ _ _ _ _ _ (c .before .before .before .before .before .before .loop .inv .0) _ (more-rows (c .before .before .before .before .before .before .before .before .before .args .rows .now) _ (c .before .before .before .before .before .loop-test .taken)) (c .before .before .before .before .if1 .left) (sym (c .before .before .before .row-at .ensures) ∙ c .before .k .given .1) ∙ sym (measure-tally _)
+returns-2 c = counts-unread _ _ _ _ _ _ _ _ (c .before .before .before .before .before .before .loop .inv .0) _
+    (more-rows (c .before .before .before .before .before .before .before .before .before .args .rows .now) _ (c .before .before .before .before .before .loop-test .taken))
+    (c .before .before .before .before .if1 .left) (sym (c .before .before .before .row-at .ensures) ∙ c .before .k .given .1) ∙ sym (measure-tally _)
 
 enum-known-e : tie.Need-enum-known-e Inv-loop μ-loop
 enum-known-e c = search needs
@@ -65,7 +68,10 @@ fault-requires : tie.Need-fault-requires Inv-loop μ-loop
 fault-requires c κs = search needs
 
 returns-3 : tie.Need-returns-3 Inv-loop μ-loop
-returns-3 c = counts-misplaced _ _ _ _ _ _ _ _ (c .before .before .before .before .before .before .before .before .loop .inv .0) _ _ _ (more-rows (c .before .before .before .before .before .before .before .before .before .before .before .args .rows .now) _ (c .before .before .before .before .before .before .before .loop-test .taken)) (c .before .before .before .before .before .before .if1 .left) (sym (c .before .before .before .before .before .row-at .ensures) ∙ c .before .before .before .e .given .1) (c .before .fault .ensures) (c .if2 .taken) ∙ sym (measure-tally _)
+returns-3 c = counts-misplaced _ _ _ _ _ _ _ _ (c .before .before .before .before .before .before .before .before .loop .inv .0) _ _ _
+    (more-rows (c .before .before .before .before .before .before .before .before .before .before .before .args .rows .now) _
+    (c .before .before .before .before .before .before .before .loop-test .taken)) (c .before .before .before .before .before .before .if1 .left)
+    (sym (c .before .before .before .before .before .row-at .ensures) ∙ c .before .before .before .e .given .1) (c .before .fault .ensures) (c .if2 .taken) ∙ sym (measure-tally _)
 
 after-requires : tie.Need-after-requires Inv-loop μ-loop
 after-requires c κs = search needs
@@ -74,19 +80,42 @@ entry-length-requires : tie.Need-entry-length-requires Inv-loop μ-loop
 entry-length-requires c κs = search needs
 
 add-sum : tie.Need-add-sum Inv-loop μ-loop
-add-sum c = omega (arith, c .entry-length .ensures, entry-most (c .before .before .before .before .before .e .given .0 .0), c .before .before .before .before .before .before .before .before .before .before .loop .inv .1, c .before .before .before .before .before .before .before .before .before .before .loop .inv .0 .limit)
+add-sum c = omega (
+  arith,
+  c .entry-length .ensures,
+  entry-most (c .before .before .before .before .before .e .given .0 .0),
+  c .before .before .before .before .before .before .before .before .before .before .loop .inv .1,
+  c .before .before .before .before .before .before .before .before .before .before .loop .inv .0 .limit,
+)
 
 add-n : tie.Need-add-n Inv-loop μ-loop
 add-n c = omega (arith, c .before .before .before .before .before .before .before .before .before .before .loop .inv .0 .limit)
 
 loop-less : tie.Need-loop-less Inv-loop μ-loop
-loop-less c = omega (arith, c .before .before .before .before .before .before .before .before .before .before .loop .inv .0 .limit, c .before .before .before .before .before .before .before .before .if1 .left)
+loop-less c = omega (
+  arith,
+  c .before .before .before .before .before .before .before .before .before .before .loop .inv .0 .limit,
+  c .before .before .before .before .before .before .before .before .if1 .left,
+)
 
 loop-again : tie.Need-loop-again Inv-loop μ-loop
-loop-again c = (measures-on _ _ _ _ _ _ _ _ (c .before .before .before .before .before .before .before .before .before .before .loop .inv .0) (c .before .before .before .before .before .before .before .before .before .loop-test .taken) (c .before .before .before .before .before .before .before .before .if1 .left) (sym (c .before .before .before .before .before .before .before .row-at .ensures) ∙ c .before .before .before .before .before .e .given .1) (sym (c .before .before .before .fault .ensures) ∙ c .before .before .if2 .left) (c .before .after .ensures) (c .entry-length .ensures), omega (arith, c .entry-length .ensures, entry-most (c .before .before .before .before .before .e .given .0 .0), c .before .before .before .before .before .before .before .before .before .before .loop .inv .1))
+loop-again c = (
+  measures-on _ _ _ _ _ _ _ _ (c .before .before .before .before .before .before .before .before .before .before .loop .inv .0)
+      (c .before .before .before .before .before .before .before .before .before .loop-test .taken) (c .before .before .before .before .before .before .before .before .if1 .left)
+      (sym (c .before .before .before .before .before .before .before .row-at .ensures)
+      ∙ c .before .before .before .before .before .e .given .1) (sym (c .before .before .before .fault .ensures)
+      ∙ c .before .before .if2 .left) (c .before .after .ensures) (c .entry-length .ensures),
+  omega (
+    arith,
+    c .entry-length .ensures,
+    entry-most (c .before .before .before .before .before .e .given .0 .0),
+    c .before .before .before .before .before .before .before .before .before .before .loop .inv .1,
+  ),
+)
 
 returns-4 : tie.Need-returns-4 Inv-loop μ-loop
-returns-4 c = counts-end _ _ _ _ _ _ _ _ (c .before .loop .inv .0) (no-more-rows (c .before .before .before .before .args .rows .now) _ (c .loop-test .left)) ∙ sym (measure-tally _)
+returns-4 c = counts-end _ _ _ _ _ _ _ _ (c .before .loop .inv .0) (no-more-rows (c .before .before .before .before .args .rows .now) _ (c .loop-test .left))
+    ∙ sym (measure-tally _)
 
 pub measure-spec : {M : Type 1} → statement M
 measure-spec =

@@ -20,13 +20,15 @@ same-length : tie.Need-same-length
 same-length c = search needs
 
 returns : tie.Need-returns
-returns c = placed-next _ _ _ _ _ _ (c .before .before .before .before .before .before .before .before .pre) (c .before .before .before .before .before .write-number .ensures) (c .before .next .given .1)
+returns c = placed-next _ _ _ _ _ _ (c .before .before .before .before .before .before .before .before .pre) (c .before .before .before .before .before .write-number .ensures)
+    (c .before .next .given .1)
 
 same-length-2 : tie.Need-same-length-2
 same-length-2 c = search needs
 
 returns-2 : tie.Need-returns-2
-returns-2 c = absurd (placed-fits _ _ _ _ _ (c .before .before .before .before .before .before .before .pre) (c .before .before .before .before .write-number .ensures) (c .enum-told .given .1))
+returns-2 c = absurd (placed-fits _ _ _ _ _ (c .before .before .before .before .before .before .before .pre) (c .before .before .before .before .write-number .ensures)
+    (c .enum-told .given .1))
 
 pub put-number-spec : {M : Type 1} → statement M
 put-number-spec =

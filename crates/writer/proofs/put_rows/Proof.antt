@@ -29,13 +29,15 @@ same-length : tie.Need-same-length Inv-loop μ-loop
 same-length c = emits-long _ _ _ _ _ (c .before .before .before .before .before .loop .inv)
 
 returns : tie.Need-returns Inv-loop μ-loop
-returns c = absurd (emits-entry _ _ _ _ _ (c .before .before .before .before .before .loop .inv) _ (c .before .before .before .before .loop-test .taken) (sym (c .before .before .before .row-at .ensures) ∙ c .before .k .given .1))
+returns c = absurd (emits-entry _ _ _ _ _ (c .before .before .before .before .before .loop .inv) _ (c .before .before .before .before .loop-test .taken)
+    (sym (c .before .before .before .row-at .ensures) ∙ c .before .k .given .1))
 
 enum-known-e : tie.Need-enum-known-e Inv-loop μ-loop
 enum-known-e c = search needs
 
 put-entry-requires : tie.Need-put-entry-requires Inv-loop μ-loop
-put-entry-requires c κs = emits-room _ _ _ _ _ (c .before .before .before .before .before .before .loop .inv) _ _ (c .before .before .before .before .before .loop-test .taken) (sym (c .before .before .before .before .row-at .ensures) ∙ c .before .before .e .given .1)
+put-entry-requires c κs = emits-room _ _ _ _ _ (c .before .before .before .before .before .before .loop .inv) _ _ (c .before .before .before .before .before .loop-test .taken)
+    (sym (c .before .before .before .before .row-at .ensures) ∙ c .before .before .e .given .1)
 
 add-n : tie.Need-add-n Inv-loop μ-loop
 add-n c = search needs
@@ -44,7 +46,9 @@ loop-less : tie.Need-loop-less Inv-loop μ-loop
 loop-less c = search needs
 
 loop-again : tie.Need-loop-again Inv-loop μ-loop
-loop-again c = emits-on _ _ _ _ _ (c .before .before .before .before .before .before .before .before .before .loop .inv) _ _ _ _ (c .before .before .before .before .before .before .before .before .loop-test .taken) (sym (c .before .before .before .before .before .before .before .row-at .ensures) ∙ c .before .before .before .before .before .e .given .1) (c .before .before .put-entry .ensures)
+loop-again c = emits-on _ _ _ _ _ (c .before .before .before .before .before .before .before .before .before .loop .inv) _ _ _ _
+    (c .before .before .before .before .before .before .before .before .loop-test .taken) (sym (c .before .before .before .before .before .before .before .row-at .ensures)
+    ∙ c .before .before .before .before .before .e .given .1) (c .before .before .put-entry .ensures)
 
 same-length-2 : tie.Need-same-length-2 Inv-loop μ-loop
 same-length-2 c = emits-long _ _ _ _ _ (c .before .loop .inv)

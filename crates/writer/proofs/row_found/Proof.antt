@@ -29,7 +29,8 @@ signed-requires : tie.Need-signed-requires
 signed-requires c κs = search needs
 
 returns-4 : tie.Need-returns-4
-returns-4 c = simp (signed-of-bits (c .signed .result) (c .before .before .before .before .before .args .value) (omega arith) (c .signed .ensures)) (sym (row-told _ _ _ _ _ (c .before .before .before .if2 .left) (c .before .if4 .taken)))
+returns-4 c = simp (signed-of-bits (c .signed .result) (c .before .before .before .before .before .args .value) (omega arith) (c .signed .ensures))
+    (sym (row-told _ _ _ _ _ (c .before .before .before .if2 .left) (c .before .if4 .taken)))
 
 returns-5 : tie.Need-returns-5
 returns-5 c = sym (row-25-cell _ _ _ _ _ (c .before .before .before .before .if1 .left) (c .before .before .before .if2 .left) (omega arith) (omega arith))
@@ -53,7 +54,8 @@ signed-requires-2 : tie.Need-signed-requires-2
 signed-requires-2 c κs = search needs
 
 returns-7 : tie.Need-returns-7
-returns-7 c = simp (signed-of-bits (c .signed2 .result) (c .before .before .before .before .before .before .before .args .value) (omega arith) (c .signed2 .ensures)) (sym (row-write _ _ _ _ _ (c .before .before .before .before .before .if2 .left) (c .before .before .if5 .left) (omega arith)))
+returns-7 c = simp (signed-of-bits (c .signed2 .result) (c .before .before .before .before .before .before .before .args .value) (omega arith) (c .signed2 .ensures))
+    (sym (row-write _ _ _ _ _ (c .before .before .before .before .before .if2 .left) (c .before .before .if5 .left) (omega arith)))
 
 pub row-found-spec : {M : Type 1} → statement M
 row-found-spec =

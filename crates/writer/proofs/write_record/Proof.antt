@@ -21,21 +21,27 @@ enum-known-n : tie.Need-enum-known-n
 enum-known-n c = search needs
 
 returns : tie.Need-returns
-returns c = let e = write-short _ _ (c .before .before .before .before .before .before .before .args .bytes .now) (sym (c .before .before .before .before .measure .ensures) ∙ c .before .before .n .given .1) (omega arith) in
+returns c = let e = write-short _ _ (c .before .before .before .before .before .before .before .args .bytes .now) (sym (c .before .before .before .before .measure .ensures)
+    ∙ c .before .before .n .given .1) (omega arith) in
     record { answers = sym (ap (λ (o : Outcome). o .answer) e); leaves = sym (ap (λ (o : Outcome). o .lent) e) }
 
 put-rows-requires : tie.Need-put-rows-requires
 put-rows-requires c κs = write-writable _ _ _ (sym (c .before .before .before .before .before .measure .ensures) ∙ c .before .before .before .n .given .1) (omega arith)
 
 returns-2 : tie.Need-returns-2
-returns-2 c = let e = write-refused _ _ _ (c .before .before .before .before .before .before .args .bytes .now) (sym (c .before .before .before .measure .ensures) ∙ c .before .k .given .1) in
+returns-2 c = let e = write-refused _ _ _ (c .before .before .before .before .before .before .args .bytes .now) (sym (c .before .before .before .measure .ensures)
+    ∙ c .before .k .given .1) in
     record { answers = sym (ap (λ (o : Outcome). o .answer) e); leaves = sym (ap (λ (o : Outcome). o .lent) e) }
 
 same-length : tie.Need-same-length
 same-length c = search needs
 
 returns-3 : tie.Need-returns-3
-returns-3 c = record { answers = sym (write-all _ _ _ (sym (c .before .before .before .before .before .before .before .before .measure .ensures) ∙ c .before .before .before .before .before .before .n .given .1) (omega arith)); leaves = c .before .before .put-rows .ensures }
+returns-3 c = record {
+  answers = sym (write-all _ _ _ (sym (c .before .before .before .before .before .before .before .before .measure .ensures)
+      ∙ c .before .before .before .before .before .before .n .given .1) (omega arith));
+  leaves = c .before .before .put-rows .ensures;
+}
 
 pub write-record-spec : {M : Type 1} → statement M
 write-record-spec =

@@ -10,13 +10,22 @@ sizes-in-requires : tie.Need-sizes-in-requires
 sizes-in-requires c κs = search needs
 
 cast-fresh : tie.Need-cast-fresh
-cast-fresh c = record { fits = bytes (c .before .before .args .replicas) (c .before .before .args .clients) (c .before .before .args .cells) (sym (c .before .sizes-in .ensures) ∙ c .if1 .taken) .first }
+cast-fresh c = record {
+  fits = bytes (c .before .before .args .replicas) (c .before .before .args .clients) (c .before .before .args .cells) (sym (c .before .sizes-in .ensures)
+      ∙ c .if1 .taken) .first;
+}
 
 cast-fresh-2 : tie.Need-cast-fresh-2
-cast-fresh-2 c = record { fits = bytes (c .before .before .args .replicas) (c .before .before .args .clients) (c .before .before .args .cells) (sym (c .before .sizes-in .ensures) ∙ c .if1 .taken) .second }
+cast-fresh-2 c = record {
+  fits = bytes (c .before .before .args .replicas) (c .before .before .args .clients) (c .before .before .args .cells) (sym (c .before .sizes-in .ensures)
+      ∙ c .if1 .taken) .second;
+}
 
 cast-fresh-3 : tie.Need-cast-fresh-3
-cast-fresh-3 c = record { fits = bytes (c .before .before .args .replicas) (c .before .before .args .clients) (c .before .before .args .cells) (sym (c .before .sizes-in .ensures) ∙ c .if1 .taken) .third }
+cast-fresh-3 c = record {
+  fits = bytes (c .before .before .args .replicas) (c .before .before .args .clients) (c .before .before .args .cells) (sym (c .before .sizes-in .ensures)
+      ∙ c .if1 .taken) .third;
+}
 
 fresh-requires : tie.Need-fresh-requires
 fresh-requires c κs = search needs

@@ -22,11 +22,23 @@ returns-4 c = rw (le-leb _ _ (c .before .before .before .if1 .left), le-leb _ _ 
 
 returns-5 : tie.Need-returns-5
 unfolding sizesFit
-returns-5 c = rw (le-leb _ _ (c .before .before .before .before .if1 .left), le-leb _ _ (c .before .before .before .if2 .left), le-leb _ _ (c .before .before .if3 .left), le-leb _ _ (c .before .if4 .left), lt-leb _ _ (c .if5 .taken))
+returns-5 c = rw (
+  le-leb _ _ (c .before .before .before .before .if1 .left),
+  le-leb _ _ (c .before .before .before .if2 .left),
+  le-leb _ _ (c .before .before .if3 .left),
+  le-leb _ _ (c .before .if4 .left),
+  lt-leb _ _ (c .if5 .taken),
+)
 
 returns-6 : tie.Need-returns-6
 unfolding sizesFit
-returns-6 c = rw (le-leb _ _ (c .before .before .before .before .if1 .left), le-leb _ _ (c .before .before .before .if2 .left), le-leb _ _ (c .before .before .if3 .left), le-leb _ _ (c .before .if4 .left), le-leb _ _ (c .if5 .left))
+returns-6 c = rw (
+  le-leb _ _ (c .before .before .before .before .if1 .left),
+  le-leb _ _ (c .before .before .before .if2 .left),
+  le-leb _ _ (c .before .before .if3 .left),
+  le-leb _ _ (c .before .if4 .left),
+  le-leb _ _ (c .if5 .left),
+)
 
 pub sizes-in-spec : {M : Type 1} → statement M
 sizes-in-spec =

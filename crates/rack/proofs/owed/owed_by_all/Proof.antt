@@ -43,7 +43,8 @@ loop-again : tie.Need-loop-again Inv-loop μ-loop
 loop-again c = (search needs, (search needs, (rw (c .owed-by .ensures .0, c .before .before .before .loop .inv .1 .1 .0) (sym (owed-next _ _)), omega arith)))
 
 returns : tie.Need-returns Inv-loop μ-loop
-returns c = c .before .loop .inv .1 .1 .0 ∙ owed-end (c .before .before .capped .result) (c .before .loop .i) _ _ (c .before .before .capped .ensures) (search needs) (c .loop-test .left) (c .before .loop .inv .0)
+returns c = c .before .loop .inv .1 .1 .0
+    ∙ owed-end (c .before .before .capped .result) (c .before .loop .i) _ _ (c .before .before .capped .ensures) (search needs) (c .loop-test .left) (c .before .loop .inv .0)
 
 pub owed-by-all-spec : {M : Type 1} → statement M
 owed-by-all-spec =
