@@ -56,10 +56,11 @@ uint64_t adze_rack_made(uint32_t *rack, size_t words, uint32_t replicas, uint32_
 uint64_t adze_rack_run(uint32_t *rack, size_t words, uint32_t allowance, const uint32_t *events, size_t event_words);
 
 /* What a caller holds, if nobody else writes to the words (docs/PROMISES.md, "lent"):
- *   The words that a call leaves are read by the next call as the rack that was left, whole.
- *   Two runs are one. Where the first did all its events, one call with the events of both, and an allowance of the events that the
- *   first did and the second's, answers the events done by both and the second's refusal, and leaves the same in every word. So does
- *   one call with the first's events, where the second goes on with those that the first didn't do.
+ *   Once a rack is made, the words that a call leaves are read by the next call as the rack that was left, whole.
+ *   Two runs are one. Where the first did all its events, and its words are whole events, one call with the events of both, and an
+ *   allowance of the events that the first did and the second's (if that fits 32 bits), answers the events done by both and the
+ *   second's refusal, and leaves the same in every word. So does one call with the first's events, where the second goes on with
+ *   those that the first didn't do.
  *   Once a rack is made, its record is lawful after any runs. The record's rows stand from word 3,109 on, as many as word 4 says:
  *   adze_write_record takes them as they stand, 16,384 bytes are room enough, and what it writes reads back. */
 

@@ -11,7 +11,7 @@ use Rattle.verdict.specs.declared.Verdict.{Verdict}
 use Rattle.verdict.specs.declared.Verdict.the-variants.{Lawful as saysLawful, Unlawful as saysUnlawful, Refused as saysRefused}
 use Rattle.record.specs.declared.Answer.{Answer}
 use Rattle.record.specs.declared.Answer.the-variants.{All, Refused as Unread}
-use Rattle.layout.specs.declared.WordsAnswer.{WordsAnswer as Done}
+use Rattle.layout.specs.declared.WordsAnswer.{WordsAnswer}
 
 -- a number that was read at place at: itself and how many bytes it takes
 unfoldable pub packedNumber : ℕ → Number → ℕ
@@ -39,5 +39,5 @@ abbrev pub Judged : List ℕ → ℕ → Type 0
 Judged s r = (v : Verdict) × (Judges (takenFor s) v × (r ≡ packedVerdict v))
 
 -- a rack that was made or run: how many events were done, and the refusal
-unfoldable pub packedRun : Done → ℕ
+unfoldable pub packedRun : WordsAnswer → ℕ
 packedRun a = 2 ^ 32 * a .refusal + a .done

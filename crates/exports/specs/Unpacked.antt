@@ -12,7 +12,7 @@ use Rattle.verdict.specs.declared.Verdict.{Verdict}
 use Rattle.verdict.specs.declared.Verdict.the-variants.{Lawful as saysLawful, Unlawful as saysUnlawful, Refused as saysRefused}
 use Rattle.record.specs.declared.Answer.{Answer}
 use Rattle.record.specs.declared.Answer.the-variants.{All, Refused as Unread}
-use Rattle.layout.specs.declared.WordsAnswer.{WordsAnswer as Done}
+use Rattle.layout.specs.declared.WordsAnswer.{WordsAnswer}
 
 -- ---- the bits
 
@@ -57,7 +57,7 @@ unpackedVerdict r =
     (saysRefused (refusalOfPacked r) (numberOfPacked r))
 
 -- a rack that was made or run
-unfoldable pub unpackedRun : ℕ → Done
+unfoldable pub unpackedRun : ℕ → WordsAnswer
 unpackedRun r = record { done = numberOfPacked r; refusal = refusalOfPacked r }
 
 -- ---- answers that fit their bits: every answer of a call does
@@ -84,5 +84,5 @@ VerdictFits (saysUnlawful cell) = cell .0 < 16
 VerdictFits (saysRefused k n) = (21 ≤ k) × (k ≤ 29) × (n ≤ 2048)
 
 -- a number of events of 32 bits; a refusal up to 20, 0 for none
-abbrev pub RunFits : Done → Type 0
+abbrev pub RunFits : WordsAnswer → Type 0
 RunFits a = (a .refusal ≤ 20) × (a .done < 2 ^ 32)

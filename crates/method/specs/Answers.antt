@@ -1,4 +1,4 @@
--- What an outcome means, case by case: the refusal by the paper's number, and every value of a plan. A refused event changes nothing, so what it leaves
+-- What a decision means, case by case: the refusal by the paper's number, and every value of a plan. A refused event changes nothing, so what it leaves
 -- is then what it saw.
 use Prim.Native.Nat.{ℕ}
 use mathlib.Core.Bool.{Bool, false}

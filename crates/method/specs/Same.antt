@@ -1,10 +1,10 @@
--- When two outcomes of a call are one.
+-- When two decisions are one.
 use mathlib.Core.Path.{_≡_}
 use Rattle.method.specs.declared.Sight.{Sight}
 use Rattle.method.specs.declared.Decision.{Decision}
 use Rattle.method.specs.Answers.{refusalIn, partyAfter, pairAfter, powerAfter, clearIn, noteIn, messageIn, sentTo}
 
--- two outcomes that refuse alike, leave the same of whatever was seen, send and record the same, and are one outcome
+-- two decisions that refuse alike, leave the same of whatever was seen, send and record the same, and are one
 pub record SameOutcome (r r′ : Decision) : Type 0 where
   pub refusal : refusalIn r ≡ refusalIn r′
   pub party : (s : Sight) → partyAfter s r ≡ partyAfter s r′

@@ -52,8 +52,8 @@ abbrev pub chosenOf : Setting → Op → Pair
 chosenOf S x = cond (x .call .write) (newOf S x) (x .held)
 
 -- "The replica takes stamp and value if the stamp is greater than its own."
-abbrev pub raised : Pair → Pair → Pair
-raised own given = cond (newer own given) given own
+abbrev pub newerOf : Pair → Pair → Pair
+newerOf own given = cond (newer own given) given own
 
 -- ---- the operation after each move
 
@@ -97,7 +97,7 @@ after S v (start o client cell write value) =
     changed v o (begun (record { client = client; cell = cell; write = write; value = value; start = v .now })) (suc (v .now))
 after S v (hear o r told) = changed v o (heard S (v .ops o) r told) (v .now)
 after S v (choose o) = changed v o (keeping S (v .ops o)) (v .now)
-after S v (take o r cell given) = stored v r cell (raised (v .pair r cell) given)
+after S v (take o r cell given) = stored v r cell (newerOf (v .pair r cell) given)
 after S v (count o r) = changed v o (counted S (v .ops o) r) (v .now)
 after S v (finish o) = changed v o (ended (v .ops o) (v .now)) (suc (v .now))
 

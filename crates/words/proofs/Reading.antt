@@ -55,10 +55,10 @@ fills-all {A} f n xs l i g h k =
     fills-end f n xs l i g h ∙ ap (λ (r : List A). firsts n f ++ r) (drop-of-length-le xs k) ∙ append-nil (firsts n f)
 
 -- only zeros
-pub zeros : (n : ℕ) → firsts {A = ℕ} n (λ i. 0) ≡ replicate n 0
+pub firsts-zero : (n : ℕ) → firsts {A = ℕ} n (λ i. 0) ≡ replicate n 0
 unfolding firsts
-zeros zero = refl
-zeros (suc n) = let e : suc n ≡ n + 1 = omega arith in ap (λ (r : List ℕ). r ++ (0 ∷ [])) (zeros n) ∙ replicate-append-replicate n 1 0 ∙ ap (λ (k : ℕ). replicate k 0) (sym e)
+firsts-zero zero = refl
+firsts-zero (suc n) = let e : suc n ≡ n + 1 = omega arith in ap (λ (r : List ℕ). r ++ (0 ∷ [])) (firsts-zero n) ∙ replicate-append-replicate n 1 0 ∙ ap (λ (k : ℕ). replicate k 0) (sym e)
 
 -- the operation numbers of what is known
 pub party-op : (stopped op phase goal : ℕ) → partyKnown stopped op phase goal ≡ true → op < 65536

@@ -42,7 +42,7 @@ use Rattle.rack.specs.Sound.{sizesFit, soundOf}
 use Rattle.rack.specs.Run.{freshRack, madeOf, eventOf, decided, ranOf, turn, appliedOf, runFrom, runOf}
 use Rattle.rack.specs.laws.Refusals.{decided-refuses}
 use Rattle.runs.specs.laws.Steps.{run-steps}
-use Rattle.layout.specs.declared.WordsAnswer.{WordsAnswer as Done}
+use Rattle.layout.specs.declared.WordsAnswer.{WordsAnswer}
 use Rattle.layout.specs.Layout.{wordCount}
 use Rattle.layout.specs.Reading.{rackOf}
 use Rattle.layout.specs.Calls.{unfit, makes, madeOutcome, leaves, runOutcome}
@@ -139,9 +139,9 @@ made-refusal x y z = go (sizesFit (record { replicas = x; clients = y; cells = z
     go true = omega arith
     go false = omega arith
 
-pub made-fits : (x y z : ℕ) (ws : List ℕ) (a : Done) → madeOutcome x y z ws .answer ≡ a → RunFits a
+pub made-fits : (x y z : ℕ) (ws : List ℕ) (a : WordsAnswer) → madeOutcome x y z ws .answer ≡ a → RunFits a
 unfolding madeOutcome makes
-made-fits x y z ws a e = go (eqb (length ws) wordCount) (ap (λ (k : Done). k .done) e) (ap (λ (k : Done). k .refusal) e)
+made-fits x y z ws a e = go (eqb (length ws) wordCount) (ap (λ (k : WordsAnswer). k .done) e) (ap (λ (k : WordsAnswer). k .refusal) e)
   where
     go : (t : Bool) → cond t (makes (madeOf x y z)) (unfit ws) .answer .done ≡ a .done → cond t (makes (madeOf x y z)) (unfit ws) .answer .refusal ≡ a .refusal
         → RunFits a
@@ -173,9 +173,9 @@ run-refusal r n es = go (eqb n 0) (ltb (length es) 4) (soundOf r)
     go false false true = from-refusal 0 r n es
     go false false false = omega arith
 
-pub run-fits : (ws : List ℕ) (n : ℕ) (es : List ℕ) (a : Done) → n < 2 ^ 32 → runOutcome ws n es .answer ≡ a → RunFits a
+pub run-fits : (ws : List ℕ) (n : ℕ) (es : List ℕ) (a : WordsAnswer) → n < 2 ^ 32 → runOutcome ws n es .answer ≡ a → RunFits a
 unfolding runOutcome leaves
-run-fits ws n es a h e = go (eqb (length ws) wordCount) (ap (λ (k : Done). k .done) e) (ap (λ (k : Done). k .refusal) e)
+run-fits ws n es a h e = go (eqb (length ws) wordCount) (ap (λ (k : WordsAnswer). k .done) e) (ap (λ (k : WordsAnswer). k .refusal) e)
   where
     go : (t : Bool) → cond t (leaves (runOf (rackOf ws) n es) ws) (unfit ws) .answer .done ≡ a .done
         → cond t (leaves (runOf (rackOf ws) n es) ws) (unfit ws) .answer .refusal ≡ a .refusal → RunFits a

@@ -21,7 +21,7 @@ use Rattle.verdict.specs.Verdict.{takenFor, Judges}
 use Rattle.verdict.specs.Answers.{caseOf, refusalIn as refusalBy, entryIn as entryBy, cellIn}
 use Rattle.verdict.specs.declared.Verdict.{Verdict}
 use Rattle.verdict.specs.declared.Verdict.the-variants.{Lawful as saysLawful, Unlawful as saysUnlawful, Refused as saysRefused}
-use Rattle.layout.specs.declared.WordsAnswer.{WordsAnswer as Done}
+use Rattle.layout.specs.declared.WordsAnswer.{WordsAnswer}
 use Rattle.layout.specs.Calls.{madeOutcome, runOutcome}
 use Rattle.exports.specs.Packed.{packedNumber, packedPut, packedAnswer, packedVerdict, Judged, packedRun}
 use Rattle.exports.specs.Unpacked.{numberOfPacked, refusalOfPacked, countOfPacked, Parts, unpackedNumber, unpackedPut, unpackedAnswer, unpackedVerdict, unpackedRun}
@@ -56,7 +56,7 @@ verdict-parts saysLawful h = parts-of _ 0 0 0 (omega arith) (omega arith) (omega
 verdict-parts (saysUnlawful c) h = parts-of _ 0 0 (c .0 + 1) (omega arith) (omega arith) (omega arith) (omega arith)
 verdict-parts (saysRefused k n) h = parts-of _ k n 0 (omega (arith, h .2)) (omega (arith, h .1)) (omega arith) (omega arith)
 
-pub run-parts : (a : Done) → RunFits a → Parts (packedRun a) (a .refusal) (a .done) 0
+pub run-parts : (a : WordsAnswer) → RunFits a → Parts (packedRun a) (a .refusal) (a .done) 0
 unfolding packedRun
 run-parts a h = parts-of _ (a .refusal) (a .done) 0 (h .1) (omega (arith, h .0)) (omega arith) (omega arith)
 
@@ -108,7 +108,7 @@ verdict-back (saysUnlawful c) h =
     ∙ rw (some (c .0 + 1) (omega arith)) (ap (λ (n : ℕ). saysUnlawful (record { 0 = n })) (omega arith))
 verdict-back (saysRefused k n) h = verdict-from _ k n 0 (verdict-parts (saysRefused k n) h) ∙ rw (some k (omega (arith, h .0)))
 
-pub run-back : (a : Done) → RunFits a → unpackedRun (packedRun a) ≡ a
+pub run-back : (a : WordsAnswer) → RunFits a → unpackedRun (packedRun a) ≡ a
 unfolding unpackedRun
 run-back a h = let w = run-parts a h in rw (w .refused, w .numbered)
 
@@ -126,7 +126,7 @@ one-packed-answer a b h g e = sym (answer-back a h) ∙ ap unpackedAnswer e ∙ 
 pub one-packed-verdict : (v w : Verdict) → VerdictFits v → VerdictFits w → packedVerdict v ≡ packedVerdict w → v ≡ w
 one-packed-verdict v w h g e = sym (verdict-back v h) ∙ ap unpackedVerdict e ∙ verdict-back w g
 
-pub one-packed-run : (a b : Done) → RunFits a → RunFits b → packedRun a ≡ packedRun b → a ≡ b
+pub one-packed-run : (a b : WordsAnswer) → RunFits a → RunFits b → packedRun a ≡ packedRun b → a ≡ b
 one-packed-run a b h g e = sym (run-back a h) ∙ ap unpackedRun e ∙ run-back b g
 
 -- ---- each call

@@ -25,10 +25,10 @@ use Rattle.lent.specs.laws.Read.{read-writable, fresh-writable, made-fre
 
 -- ---- making
 
-zeros : (n j : ℕ) → word (replicate n 0) j ≡ 0
-zeros zero j = refl
-zeros (suc n) zero = refl
-zeros (suc n) (suc j) = zeros n j
+blank-words : (n j : ℕ) → word (replicate n 0) j ≡ 0
+blank-words zero j = refl
+blank-words (suc n) zero = refl
+blank-words (suc n) (suc j) = blank-words n j
 
 fresh-again : (replicas clients cells : ℕ) → sizesFit (record { replicas = replicas; clients = clients; cells = cells }) ≡ true
     → (ws : List ℕ) → ((j : ℕ) → word ws j ≡ 0) → length ws ≡ wordCount → rackOf (writtenOf (freshRack replicas clients cells) ws) ≡ freshRack replicas clients cells
@@ -45,8 +45,8 @@ unfolding madeOutcome makes sizesFit
 made-reads-again replicas clients cells ws h =
     rw (eq-eqb (length ws) wordCount h)
     (made-fresh (λ (r : Rack). rackOf (writtenOf r (replicate wordCount 0)) ≡ r) replicas clients cells
-    (λ e. fresh-again replicas clients cells e (replicate wordCount 0) (zeros wordCount) (length-replicate {A = ℕ} wordCount 0))
-    (fresh-again 1 1 1 refl (replicate wordCount 0) (zeros wordCount) (length-replicate {A = ℕ} wordCount 0)))
+    (λ e. fresh-again replicas clients cells e (replicate wordCount 0) (blank-words wordCount) (length-replicate {A = ℕ} wordCount 0))
+    (fresh-again 1 1 1 refl (replicate wordCount 0) (blank-words wordCount) (length-replicate {A = ℕ} wordCount 0)))
 
 -- ---- running
 

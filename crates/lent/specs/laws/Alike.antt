@@ -56,12 +56,12 @@ abbrev plainPlan : Plan → Plan
 plainPlan p = record { party = plainParty (p .party); pair = p .pair; power = p .power; clear = p .clear; note = p .note; message = p .message; to = p .to }
 
 -- an outcome, and so its plan if it has one
-abbrev plainOutcome : Decision → Decision
-plainOutcome (No k) = No k
-plainOutcome (Go p) = Go (plainPlan p)
+abbrev plainDecision : Decision → Decision
+plainDecision (No k) = No k
+plainDecision (Go p) = Go (plainPlan p)
 
 -- a branch: both ways
-both : (t : Bool) (a b c d : Decision) → plainOutcome a ≡ plainOutcome c → plainOutcome b ≡ plainOutcome d → plainOutcome (cond t a b) ≡ plainOutcome (cond t c d)
+both : (t : Bool) (a b c d : Decision) → plainDecision a ≡ plainDecision c → plainDecision b ≡ plainDecision d → plainDecision (cond t a b) ≡ plainDecision (cond t c d)
 both true a b c d p q = p
 both false a b c d p q = q
 
@@ -75,12 +75,12 @@ module _ (replicas power : ℕ) (pair : Pair) (stopped : Bool) (op : ℕ) (cell 
   abbrev other : Sight
   other = record { replicas = replicas; power = power; party = record { stopped = stopped; op = op; work = Asking cell goal 0 g }; pair = pair }
 
-  ends-alike : (goal : Goal) (m : Message) (q : Pair) → plainOutcome (phaseEnds goal one m cell q) ≡ plainOutcome (phaseEnds goal other m cell q)
+  ends-alike : (goal : Goal) (m : Message) (q : Pair) → plainDecision (phaseEnds goal one m cell q) ≡ plainDecision (phaseEnds goal other m cell q)
   unfolding phaseEnds keepsOf
   ends-alike Read m q = refl
   ends-alike (Write v) m q = both (eqb (q .stamp .number) 4294967295) _ _ _ _ refl refl
 
-  deliver-alike : (b : Body) (m : Message) → plainOutcome (deliverIn b one m) ≡ plainOutcome (deliverIn b other m)
+  deliver-alike : (b : Body) (m : Message) → plainDecision (deliverIn b one m) ≡ plainDecision (deliverIn b other m)
   unfolding deliverIn askOf keepOf tellOf tellIn tellCounts holds keptOf keptIn current
   deliver-alike Ask m = both (hasReplica power (m .replica .0)) _ _ _ _ refl refl
   deliver-alike (Tell q) m =
@@ -89,11 +89,11 @@ module _ (replicas power : ℕ) (pair : Pair) (stopped : Bool) (op : ℕ) (cell 
   deliver-alike (Keep q) m = both (hasReplica power (m .replica .0)) _ _ _ _ refl refl
   deliver-alike Kept m = both (current (one .party) m) _ _ _ _ refl refl
 
-  start-alike : (client : Client) (x : Cell) (k : Goal) (entry : Entry) → plainOutcome (startOf one client x k entry) ≡ plainOutcome (startOf other client x k entry)
+  start-alike : (client : Client) (x : Cell) (k : Goal) (entry : Entry) → plainDecision (startOf one client x k entry) ≡ plainDecision (startOf other client x k entry)
   unfolding startOf startIn
   start-alike client x k entry = refl
 
-  told-nothing : (held : InSlot) (e : Event) → plainOutcome (planOf one held e) ≡ plainOutcome (planOf other held e)
+  told-nothing : (held : InSlot) (e : Event) → plainDecision (planOf one held e) ≡ plainDecision (planOf other held e)
   unfolding planOf ofSlot deliverOf copyOf resendOf resendIn stopOf powered offOf onOf
   told-nothing held (StartRead client x) = start-alike client x _ _
   told-nothing held (StartWrite client x v) = start-alike client x _ _
@@ -116,13 +116,13 @@ plannedAt replicas power pair stopped op held e w =
 
 -- a client that was told nothing, or something
 plan-plain : (replicas power : ℕ) (pair : Pair) (stopped : Bool) (op : ℕ) (held : InSlot) (e : Event) (w : Work)
-    → plainOutcome (plannedAt replicas power pair stopped op held e (plain w)) ≡ plainOutcome (plannedAt replicas power pair stopped op held e w)
+    → plainDecision (plannedAt replicas power pair stopped op held e (plain w)) ≡ plainDecision (plannedAt replicas power pair stopped op held e w)
 plan-plain replicas power pair stopped op held e Idle = refl
 plan-plain replicas power pair stopped op held e (Keeping cell goal set q) = refl
 plan-plain replicas power pair stopped op held e (Asking cell goal set q) = go (eqb set 0) refl
   where
     at : ℕ → Pair → Decision
-    at n p = plainOutcome (plannedAt replicas power pair stopped op held e (Asking cell goal n p))
+    at n p = plainDecision (plannedAt replicas power pair stopped op held e (Asking cell goal n p))
 
     go : (t : Bool) → eqb set 0 ≡ t → at set (cond t freshPair q) ≡ at set q
     go true z =
@@ -198,17 +198,17 @@ sound-alike r q e h = plain-sound r (ap soundOf e ∙ sound-plain q h)
 
 -- ---- an event
 
-cond-plain : (t : Bool) (k : ℕ) (o : Decision) → plainOutcome (cond t (No k) o) ≡ cond t (No k) (plainOutcome o)
+cond-plain : (t : Bool) (k : ℕ) (o : Decision) → plainDecision (cond t (No k) o) ≡ cond t (No k) (plainDecision o)
 cond-plain true k o = refl
 cond-plain false k o = refl
 
-noted-plain : (n : Note) (taken : ℕ) (o : Decision) → plainOutcome (noted n taken o) ≡ noted n taken (plainOutcome o)
+noted-plain : (n : Note) (taken : ℕ) (o : Decision) → plainDecision (noted n taken o) ≡ noted n taken (plainDecision o)
 unfolding noted
 noted-plain Nothing taken o = refl
 noted-plain (Asked e) taken o = cond-plain (ltb entryLimit (taken + 2)) 11 o
 noted-plain (Ended e) taken o = refl
 
-checked-plain : (o : Decision) (taken room : ℕ) → plainOutcome (checked o taken room) ≡ checked (plainOutcome o) taken room
+checked-plain : (o : Decision) (taken room : ℕ) → plainDecision (checked o taken room) ≡ checked (plainDecision o) taken room
 unfolding checked
 checked-plain (No k) taken room = refl
 checked-plain (Go p) taken room =
@@ -224,12 +224,12 @@ decidedBy r e party owes =
     (r .count + owes) (roomOf (r .wire)))
     (No 3)
 
-decided-plain : (r : Rack) (e : Event) → plainOutcome (decided (plainRack r) e) ≡ plainOutcome (decided r e)
+decided-plain : (r : Rack) (e : Event) → plainDecision (decided (plainRack r) e) ≡ plainDecision (decided r e)
 unfolding decided plainRack
 decided-plain r e =
     let k : ℕ = clientOf e (heldAt r (slotOf e)) in
     let p : Party = partyAt r k in
-    ap₂ (λ (x : Party) (n : ℕ). plainOutcome (decidedBy r e x n)) (party-plain (r .parties) k) (all-owed r)
+    ap₂ (λ (x : Party) (n : ℕ). plainDecision (decidedBy r e x n)) (party-plain (r .parties) k) (all-owed r)
     ∙ both (inRack (r .sizes) e) _ _ _ _
     (checked-plain _ (r .count + owed r) (roomOf (r .wire))
     ∙ ap (λ (o : Decision). checked o (r .count + owed r) (roomOf (r .wire)))
@@ -237,8 +237,8 @@ decided-plain r e =
     ∙ sym (checked-plain _ (r .count + owed r) (roomOf (r .wire))))
     refl
 
-decided-alike : (r q : Rack) (e : Event) → plainRack r ≡ plainRack q → plainOutcome (decided r e) ≡ plainOutcome (decided q e)
-decided-alike r q e h = sym (decided-plain r e) ∙ ap (λ (x : Rack). plainOutcome (decided x e)) h ∙ decided-plain q e
+decided-alike : (r q : Rack) (e : Event) → plainRack r ≡ plainRack q → plainDecision (decided r e) ≡ plainDecision (decided q e)
+decided-alike r q e h = sym (decided-plain r e) ∙ ap (λ (x : Rack). plainDecision (decided x e)) h ∙ decided-plain q e
 
 map-set : {A B : Type 0} (f : A → B) (l : List A) (i : ℕ) (a : A) → map f (set l i a) ≡ set (map f l) i (f a)
 map-set f [] i a = refl
@@ -283,7 +283,7 @@ from-alike done r q (suc n) (k ∷ a ∷ b ∷ []) h = ap (ranOf done 0) h
 from-alike done r q (suc n) (k ∷ a ∷ b ∷ v ∷ es) h =
     go (decided r (eventOf k a b v)) (decided q (eventOf k a b v)) (decided-alike r q (eventOf k a b v) h) (λ x y. from-alike (done + 1) x y n es)
   where
-    go : (o u : Decision) → plainOutcome o ≡ plainOutcome u
+    go : (o u : Decision) → plainDecision o ≡ plainDecision u
         → ((x y : Rack) → plainRack x ≡ plainRack y → plainRan (runFrom (done + 1) x n es) ≡ plainRan (runFrom (done + 1) y n es))
         → plainRan (turn done r (eventOf k a b v) o (λ x. runFrom (done + 1) x n es)) ≡ plainRan (turn done q (eventOf k a b v) u (λ x. runFrom (done + 1) x n es))
     go (No x) (No y) e ih = let z : x ≡ y = cc in ap₂ (ranOf done) z h

@@ -35,7 +35,7 @@ use Rattle.method.specs.declared.Decision.the-variants.{No, Go}
 use Rattle.method.specs.Plan.{usedUp, answered, started, startIn, startOf, askOf, keepOf, current, keepsOf, written, phaseEnds, tellCounts, tellIn, tellOf}
 use Rattle.method.specs.Holding.{holds, lastEntry}
 use Rattle.method.specs.Plan.{keptCounts, keptIn, keptOf, deliverIn, deliverOf, copyOf, resendIn, resendOf, stopOf, powered, offOf, onOf, ofSlot, planOf}
-use Rattle.method.specs.laws.Tests.{never, and-left, and-right}
+use Rattle.method.specs.laws.Tests.{either, never, and-left, and-right}
 use Rattle.rack.specs.declared.Sizes.{Sizes}
 use Rattle.rack.specs.Sound.{pairFits, bodyFits, heldFits}
 use Rattle.rack.specs.Run.{inRack}
@@ -72,14 +72,9 @@ pub record PlanStays (before : Work) (p : Plan) : Type 0 where
   pub note : NoteFits (p .note)
 
 -- of a refusal nothing has to hold
-abbrev pub OutcomeStays : Work → Decision → Type 0
-OutcomeStays before (No k) = Unit {0}
-OutcomeStays before (Go p) = PlanStays before p
-
--- a branch: both ways
-either : (w : Work) (t : Bool) (a b : Decision) → OutcomeStays w a → (t ≡ false → OutcomeStays w b) → OutcomeStays w (cond t a b)
-either w true a b p q = p
-either w false a b p q = q refl
+abbrev pub DecisionStays : Work → Decision → Type 0
+DecisionStays before (No k) = Unit {0}
+DecisionStays before (Go p) = PlanStays before p
 
 -- ---- ranks and sets
 
@@ -127,12 +122,12 @@ module _ (z : Sizes) (n : Sized z) (power : ℕ) (on : power < 32768) (party : P
 
   -- ---- start
 
-  start-stays : (client : Client) (cell : Cell) (goal : Goal) (entry : Entry) → entryFits entry → OutcomeStays before (startOf seen client cell goal entry)
+  start-stays : (client : Client) (cell : Cell) (goal : Goal) (entry : Entry) → entryFits entry → DecisionStays before (startOf seen client cell goal entry)
   unfolding startOf startIn started
-  start-stays client cell goal entry h = either before (party .stopped) _ _ tt (λ e. go (party .work))
+  start-stays client cell goal entry h = either (DecisionStays before) (party .stopped) _ _ (λ e. tt) (λ e. go (party .work))
     where
-      go : (w : Work) → OutcomeStays before (startIn w seen (party .op) client cell goal entry)
-      go Idle = either before (eqb (party .op) 65535) _ _ tt
+      go : (w : Work) → DecisionStays before (startIn w seen (party .op) client cell goal entry)
+      go Idle = either (DecisionStays before) (eqb (party .op) 65535) _ _ (λ e. tt)
           (λ e. (let d : party .op ≡ 65535 → ⊥ = eqb-false (party .op) 65535 e in
           let up : party .op + 1 < 65536 = omega (arith, d) in
           record { power = on; op = up; rank = omega arith; told = λ x. refl; message = up; note = h }))
@@ -142,33 +137,33 @@ module _ (z : Sizes) (n : Sized z) (power : ℕ) (on : power < 32768) (party : P
   -- ---- a slot's message
 
   module _ (m : Message) (who : Named z m) (late : m .op < 65536) where
-    used-stays : OutcomeStays before (usedUp seen m)
+    used-stays : DecisionStays before (usedUp seen m)
     used-stays = record { power = on; op = small; rank = rank; told = λ x. x; message = late; note = tt }
 
-    answered-stays : (after : Pair) (body : Body) → OutcomeStays before (answered seen after m body)
+    answered-stays : (after : Pair) (body : Body) → DecisionStays before (answered seen after m body)
     answered-stays after body = record { power = on; op = small; rank = rank; told = λ x. x; message = late; note = tt }
 
-    copy-stays : OutcomeStays before (copyOf seen m)
+    copy-stays : DecisionStays before (copyOf seen m)
     unfolding copyOf
     copy-stays = record { power = on; op = small; rank = rank; told = λ x. x; message = late; note = tt }
 
-    moves : (cell : Cell) (goal : Goal) (held : Pair) → held .stamp .rank < 256 → OutcomeStays before (keepsOf seen m cell goal held)
+    moves : (cell : Cell) (goal : Goal) (held : Pair) → held .stamp .rank < 256 → DecisionStays before (keepsOf seen m cell goal held)
     unfolding keepsOf
     moves cell goal held h = record { power = on; op = small; rank = h; told = λ x. refl; message = small; note = tt }
 
-    phase-stays : (goal : Goal) (cell : Cell) (held : Pair) → held .stamp .rank < 256 → OutcomeStays before (phaseEnds goal seen m cell held)
+    phase-stays : (goal : Goal) (cell : Cell) (held : Pair) → held .stamp .rank < 256 → DecisionStays before (phaseEnds goal seen m cell held)
     unfolding phaseEnds
     phase-stays Read cell held h = moves cell Read held h
     phase-stays (Write v) cell held h =
-        either before (eqb (held .stamp .number) 4294967295) _ _ tt (λ e. moves cell (Write v) (written (m .client) v held) (omega (arith, who .client, n .clients)))
+        either (DecisionStays before) (eqb (held .stamp .number) 4294967295) _ _ (λ e. tt) (λ e. moves cell (Write v) (written (m .client) v held) (omega (arith, who .client, n .clients)))
 
-    tell-in-stays : (q : Pair) → q .stamp .rank < 256 → (w : Work) → RankSmall w → OutcomeStays before (tellIn w seen m q)
+    tell-in-stays : (q : Pair) → q .stamp .rank < 256 → (w : Work) → RankSmall w → DecisionStays before (tellIn w seen m q)
     unfolding tellIn tellCounts
     tell-in-stays q hq Idle hw = used-stays
     tell-in-stays q hq (Asking cell goal set held) hw =
         let h : holds set held q .stamp .rank < 256 = holds-below set held q hw hq in
-        either before (hasReplica set (m .replica .0)) _ _ used-stays
-        (λ e. either before (asksEnough (z .replicas) (withReplica set (m .replica .0))) _ _ (phase-stays goal cell (holds set held q) h)
+        either (DecisionStays before) (hasReplica set (m .replica .0)) _ _ (λ e. used-stays)
+        (λ e. either (DecisionStays before) (asksEnough (z .replicas) (withReplica set (m .replica .0))) _ _ (λ e. phase-stays goal cell (holds set held q) h)
         (λ f. record {
           power = on;
           op = small;
@@ -179,11 +174,11 @@ module _ (z : Sizes) (n : Sized z) (power : ℕ) (on : power < 32768) (party : P
         }))
     tell-in-stays q hq (Keeping cell goal set held) hw = used-stays
 
-    tell-stays : (q : Pair) → q .stamp .rank < 256 → OutcomeStays before (tellOf seen m q)
+    tell-stays : (q : Pair) → q .stamp .rank < 256 → DecisionStays before (tellOf seen m q)
     unfolding tellOf
     tell-stays q hq = go (current party m)
       where
-        go : (t : Bool) → OutcomeStays before (cond t (tellIn (party .work) seen m q) (usedUp seen m))
+        go : (t : Bool) → DecisionStays before (cond t (tellIn (party .work) seen m q) (usedUp seen m))
         go true = tell-in-stays q hq (party .work) rank
         go false = used-stays
 
@@ -193,63 +188,63 @@ module _ (z : Sizes) (n : Sized z) (power : ℕ) (on : power < 32768) (party : P
     last-fits Read held = omega (arith, who .client, n .clients)
     last-fits (Write v) held = omega (arith, who .client, n .clients)
 
-    kept-in-stays : (w : Work) → RankSmall w → OutcomeStays before (keptIn w seen m)
+    kept-in-stays : (w : Work) → RankSmall w → DecisionStays before (keptIn w seen m)
     unfolding keptIn keptCounts
     kept-in-stays Idle hw = used-stays
     kept-in-stays (Asking cell goal set held) hw = used-stays
     kept-in-stays (Keeping cell goal set held) hw =
-        either before (hasReplica set (m .replica .0)) _ _ used-stays
-        (λ e. either before (keepsEnough (z .replicas) (withReplica set (m .replica .0))) _ _
-        (record { power = on; op = small; rank = tt; told = λ x. refl; message = late; note = last-fits goal held })
+        either (DecisionStays before) (hasReplica set (m .replica .0)) _ _ (λ e. used-stays)
+        (λ e. either (DecisionStays before) (keepsEnough (z .replicas) (withReplica set (m .replica .0))) _ _
+        (λ e. record { power = on; op = small; rank = tt; told = λ x. refl; message = late; note = last-fits goal held })
         (λ f. record { power = on; op = small; rank = hw; told = λ x. refl; message = late; note = tt }))
 
-    kept-stays : OutcomeStays before (keptOf seen m)
+    kept-stays : DecisionStays before (keptOf seen m)
     unfolding keptOf
     kept-stays = go (current party m)
       where
-        go : (t : Bool) → OutcomeStays before (cond t (keptIn (party .work) seen m) (usedUp seen m))
+        go : (t : Bool) → DecisionStays before (cond t (keptIn (party .work) seen m) (usedUp seen m))
         go true = kept-in-stays (party .work) rank
         go false = used-stays
 
-    deliver-stays : (b : Body) → bodyFits z b ≡ true → OutcomeStays before (deliverIn b seen m)
+    deliver-stays : (b : Body) → bodyFits z b ≡ true → DecisionStays before (deliverIn b seen m)
     unfolding deliverIn askOf keepOf bodyFits
-    deliver-stays Ask hb = either before (hasReplica power (m .replica .0)) _ _ (answered-stays pair (Tell pair)) (λ e. tt)
+    deliver-stays Ask hb = either (DecisionStays before) (hasReplica power (m .replica .0)) _ _ (λ e. answered-stays pair (Tell pair)) (λ e. tt)
     deliver-stays (Tell q) hb = tell-stays q (rank-below z q n hb)
-    deliver-stays (Keep q) hb = either before (hasReplica power (m .replica .0)) _ _ (answered-stays (raised pair q) Kept) (λ e. tt)
+    deliver-stays (Keep q) hb = either (DecisionStays before) (hasReplica power (m .replica .0)) _ _ (λ e. answered-stays (raised pair q) Kept) (λ e. tt)
     deliver-stays Kept hb = kept-stays
 
   -- ---- resend, stop, power
 
-  resend-stays : (client : Client) → OutcomeStays before (resendOf seen client)
+  resend-stays : (client : Client) → DecisionStays before (resendOf seen client)
   unfolding resendOf resendIn
-  resend-stays client = either before (party .stopped) _ _ tt (λ e. go (party .work))
+  resend-stays client = either (DecisionStays before) (party .stopped) _ _ (λ e. tt) (λ e. go (party .work))
     where
-      go : (w : Work) → OutcomeStays before (resendIn w seen client)
+      go : (w : Work) → DecisionStays before (resendIn w seen client)
       go Idle = tt
       go (Asking cell goal set held) = record { power = on; op = small; rank = rank; told = λ x. x; message = small; note = tt }
       go (Keeping cell goal set held) = record { power = on; op = small; rank = rank; told = λ x. x; message = small; note = tt }
 
-  stop-stays : OutcomeStays before (stopOf seen)
+  stop-stays : DecisionStays before (stopOf seen)
   unfolding stopOf
-  stop-stays = either before (party .stopped) _ _ tt (λ e. record { power = on; op = small; rank = rank; told = λ x. x; message = omega arith; note = tt })
+  stop-stays = either (DecisionStays before) (party .stopped) _ _ (λ e. tt) (λ e. record { power = on; op = small; rank = rank; told = λ x. x; message = omega arith; note = tt })
 
-  powered-stays : (after : ℕ) → after < 32768 → OutcomeStays before (powered seen after)
+  powered-stays : (after : ℕ) → after < 32768 → DecisionStays before (powered seen after)
   unfolding powered
   powered-stays after h = record { power = h; op = small; rank = rank; told = λ x. x; message = omega arith; note = tt }
 
-  off-stays : (replica : Replica) → OutcomeStays before (offOf seen replica)
+  off-stays : (replica : Replica) → DecisionStays before (offOf seen replica)
   unfolding offOf
-  off-stays replica = either before (hasReplica power (replica .0)) _ _ (powered-stays (withoutReplica power (replica .0)) (without-below 15 power (replica .0) on)) (λ e. tt)
+  off-stays replica = either (DecisionStays before) (hasReplica power (replica .0)) _ _ (λ e. powered-stays (withoutReplica power (replica .0)) (without-below 15 power (replica .0) on)) (λ e. tt)
 
-  on-stays : (replica : Replica) → replica .0 < z .replicas → OutcomeStays before (onOf seen replica)
+  on-stays : (replica : Replica) → replica .0 < z .replicas → DecisionStays before (onOf seen replica)
   unfolding onOf
   on-stays replica h =
-      either before (hasReplica power (replica .0)) _ _ tt
+      either (DecisionStays before) (hasReplica power (replica .0)) _ _ (λ e. tt)
       (λ e. powered-stays (withReplica power (replica .0)) (with-below 15 power (replica .0) on (omega (arith, n .replicas))))
 
   -- ---- every event
 
-  pub plan-stays : (held : InSlot) → heldFits z held ≡ true → HeldOp held → (e : Event) → inRack z e ≡ true → OutcomeStays before (planOf seen held e)
+  pub plan-stays : (held : InSlot) → heldFits z held ≡ true → HeldOp held → (e : Event) → inRack z e ≡ true → DecisionStays before (planOf seen held e)
   unfolding planOf ofSlot inRack heldFits deliverOf
   plan-stays held hh ho (StartRead client cell) i =
       let a : client .0 < z .clients = ltb-true _ _ (and-left (ltb (client .0) (z .clients)) (ltb (cell .0) (z .cells)) i) in

@@ -48,7 +48,7 @@ use Rattle.layout.specs.Plain.{plain, plainParty}
 use Rattle.layout.specs.laws.Again.{Sayable}
 use Rattle.lent.specs.Plain.{Plain}
 use Rattle.lent.specs.laws.Whole.{Beyond}
-use Rattle.lent.specs.laws.Plans.{RankSmall, HeldOp, NoteFits, PlanStays, OutcomeStays, rank-below, plan-stays}
+use Rattle.lent.specs.laws.Plans.{RankSmall, HeldOp, NoteFits, PlanStays, DecisionStays, rank-below, plan-stays}
 
 -- a rack that can be written into the words ws and read again
 pub record Writable (ws : List ℕ) (r : Rack) : Type 0 where
@@ -176,7 +176,7 @@ module _ (ws : List ℕ) (r : Rack) (e : Event) (p : Plan) (h : soundOf r ≡ tr
   left : PlanStays (lookedParty r e .work) p
   left =
       let d : Decided r e p = decided-fits r e p h g in
-      subst (OutcomeStays (lookedParty r e .work)) (decided-plan r e p h g)
+      subst (DecisionStays (lookedParty r e .work)) (decided-plan r e p h g)
       (plan-stays (r .sizes) (sound-of r h .sizes) (r .power) (k .power) (lookedParty r e) (lookedPair r e) (k .ops (lookedClient r e)) (k .ranks (lookedClient r e))
       (lookedHeld r e) (d .looked .held) (k .messages (slotOf e)) e (d .inside))
 

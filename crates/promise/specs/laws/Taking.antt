@@ -19,7 +19,7 @@ use Rattle.rack.specs.laws.SoundLaws.{Sized}
 use Rattle.rack.specs.laws.Decided.{lookedHeld, lookedClient, lookedParty, lookedPlace, lookedPair, Looked, sight}
 use Rattle.protocol.specs.View.{Setting, Pair as Seen, View}
 use Rattle.protocol.specs.Message.{Keep as Chose}
-use Rattle.protocol.specs.Move.{Move, take, put, raised, stored, then}
+use Rattle.protocol.specs.Move.{Move, take, put, newerOf, stored, then}
 use Rattle.protocol.specs.Invariant.{Invariant}
 use Rattle.protocol.specs.laws.Place.{put-one}
 use Rattle.protocol.specs.laws.Steps.{step}
@@ -72,7 +72,7 @@ module _ (r : Rack) (e : Event) (p : Plan) (v : View) (name : ℕ → ℕ → �
 
   -- the replica's pair for that cell, raised by the one given
   abbrev moved : Seen
-  moved = raised (v .pair k x) (pairOf (h .given))
+  moved = newerOf (v .pair k x) (pairOf (h .given))
 
   -- the view after the replica has that pair
   abbrev pub taken : View
@@ -82,7 +82,7 @@ module _ (r : Rack) (e : Event) (p : Plan) (v : View) (name : ℕ → ℕ → �
   moved-is : moved ≡ pairOf (p .pair)
   unfolding bodyFits
   moved-is =
-      ap (λ (q : Seen). raised q (pairOf (h .given))) (f .pair)
+      ap (λ (q : Seen). newerOf q (pairOf (h .given))) (f .pair)
       ∙ raised-seen (lookedPair r e) (h .given) (p .pair) (fits-ranked (r .sizes) z (lookedPair r e) (l .pair))
       (fits-ranked (r .sizes) z (h .given) (f .fits)) (h .pair)
 

@@ -6,7 +6,7 @@ use native.Mathlib.Omega.{arith}
 use lib.Dec.{eqb}
 use borrow.Author.Tests.{ltb-true, ltb-false, eqb-true}
 use Rattle.protocol.specs.View.{Setting, Pair, Op}
-use Rattle.protocol.specs.Move.{newer, heldOf, raised}
+use Rattle.protocol.specs.Move.{newer, heldOf, newerOf}
 
 newer-true : (a b : Pair) → newer a b ≡ true → a .stamp < b .stamp
 newer-true a b e = ltb-true (a .stamp) (b .stamp) e
@@ -16,14 +16,14 @@ newer-false a b e = ltb-false (a .stamp) (b .stamp) e
 
 -- ---- what a replica has after a keep: its own or the given pair, with the greater stamp
 
-pub raised-least : (own given : Pair) → (own .stamp ≤ raised own given .stamp) × (given .stamp ≤ raised own given .stamp)
+pub raised-least : (own given : Pair) → (own .stamp ≤ newerOf own given .stamp) × (given .stamp ≤ newerOf own given .stamp)
 raised-least own given = go (newer own given) refl
   where
     go : (t : Bool) → newer own given ≡ t → (own .stamp ≤ cond t given own .stamp) × (given .stamp ≤ cond t given own .stamp)
     go true e = let l = newer-true own given e in (omega arith, omega arith)
     go false e = let l = newer-false own given e in (omega arith, omega arith)
 
-pub raised-is : (P : Pair → Type 0) (own given : Pair) → P own → P given → P (raised own given)
+pub raised-is : (P : Pair → Type 0) (own given : Pair) → P own → P given → P (newerOf own given)
 raised-is P own given a b = go (newer own given)
   where
     go : (t : Bool) → P (cond t given own)

@@ -4,7 +4,7 @@ use Prim.Native.Nat.{ℕ, _≤_}
 use native.Mathlib.Omega.{arith}
 use Rattle.protocol.specs.View.{Setting, Pair, View, Before}
 use Rattle.protocol.specs.Message.{Tell, Keep, Kept}
-use Rattle.protocol.specs.Move.{put, raised, stored}
+use Rattle.protocol.specs.Move.{put, newerOf, stored}
 use Rattle.protocol.specs.Invariant.{Invariant}
 use Rattle.protocol.specs.laws.Place.{put-here}
 use Rattle.protocol.specs.Later.{Later}
@@ -28,9 +28,9 @@ pub keep-true : (v : View) (o : ℕ) → 2 ≤ v .ops o .phase → Keep v o (v .
 keep-true v o p = record { chosen = p; cell = refl; held = refl }
 
 -- a replica that was given a keep has at least its stamp, whether it took the pair or not
-pub kept-true : (v : View) (o r c : ℕ) (p : Pair) → Keep v o c p → Kept (stored v r c (raised (v .pair r c) p)) o r
+pub kept-true : (v : View) (o r c : ℕ) (p : Pair) → Keep v o c p → Kept (stored v r c (newerOf (v .pair r c) p)) o r
 kept-true v o r c p m =
-    let new = raised (v .pair r c) p in
+    let new = newerOf (v .pair r c) p in
     record {
       chosen = m .chosen;
       has = rw (m .cell, m .held, put-here (v .pair) r (put (v .pair r) c new), put-here (v .pair r) c new) (raised-least (v .pair r c) p .1);

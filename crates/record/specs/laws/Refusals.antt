@@ -31,10 +31,10 @@ Within low k = (low ≤ k) × (k ≤ 25)
 pub no-at : {A : Type 0} {e : Entry} {next k : ℕ} → At e next ≡ Fault k → A
 no-at p = let z : _≡_ {A = ℕ} 0 1 = cc in absurd (omega arith)
 
--- either way of a test
-either : (k : ℕ) (t : Bool) (a b : Found) → (a ≡ Fault k → Within 21 k) → (b ≡ Fault k → Within 21 k) → cond t a b ≡ Fault k → Within 21 k
-either k true a b f g p = f p
-either k false a b f g p = g p
+-- a fault of either way of a test
+fault-either-way : (k : ℕ) (t : Bool) (a b : Found) → (a ≡ Fault k → Within 21 k) → (b ≡ Fault k → Within 21 k) → cond t a b ≡ Fault k → Within 21 k
+fault-either-way k true a b f g p = f p
+fault-either-way k false a b f g p = g p
 
 -- the number is refused, or what follows it
 then-fault : (k : ℕ) (r : Number) (go : ℕ → ℕ → Found) → ((j : ℕ) → r ≡ number.Refused j → Within 21 j) → ((n next : ℕ) → go n next ≡ Fault k → Within 21 k)
@@ -61,10 +61,10 @@ limit-fault s at limit refusal k h p = go (numberAt s at) refl p
 fields-fault : (s : List ℕ) (at kind client k : ℕ) → fieldsAt s at kind client ≡ Fault k → Within 21 k
 unfolding fieldsAt
 fields-fault s at kind client k p =
-    either k (eqb kind 3) _ _ (λ q. no-at q)
-    (λ q. either k (eqb kind 2) _ _ (λ r. then-fault k (numberAt s at) _ (number-fault s at) (λ v next x. no-at x) r)
+    fault-either-way k (eqb kind 3) _ _ (λ q. no-at q)
+    (λ q. fault-either-way k (eqb kind 2) _ _ (λ r. then-fault k (numberAt s at) _ (number-fault s at) (λ v next x. no-at x) r)
     (λ r. then-fault k (upTo 15 25 (numberAt s at)) _ (λ j. limit-fault s at 15 25 j (omega arith, omega arith))
-    (λ cell next x. either k (eqb kind 0) _ _ (λ y. no-at y) (λ y. then-fault k (numberAt s next) _ (number-fault s next) (λ v last z. no-at z) y) x) r) q) p
+    (λ cell next x. fault-either-way k (eqb kind 0) _ _ (λ y. no-at y) (λ y. then-fault k (numberAt s next) _ (number-fault s next) (λ v last z. no-at z) y) x) r) q) p
 
 -- reading an entry refuses with 21 to 25
 pub entry-faults : (s : List ℕ) (at k : ℕ) → entryAt s at ≡ Fault k → (21 ≤ k) × (k ≤ 25)

@@ -257,9 +257,11 @@ loop2-holds c = record {
       .before .before .before .before .loop .inv .2) _ _ (c .before .before .before .before .before .before .before .before .before .outcome2 .given .0 .0) _ _
       (going-plan _ _ _ _ _ _ _ (c .before .before .before .before .before .before .before .before .before .before .before .before .before .before .before .before .before .before
       .before .before .before .before .before .before .before .loop .inv .2) _ _ _ _ _ _
-      (sym (c .before .before .before .before .before .before .before .before .before .before .before .before .before .before .before .before .before .before .before .before .before
+      (sym (c .before .before .before .before .before .before .before .before .before .before .before .before .before .before .before .before .before .before .before .before
+      .before
       .in-rack .ensures) ∙ not-false _
-      (c .before .before .before .before .before .before .before .before .before .before .before .before .before .before .before .before .before .before .before .before .if1 .left))
+      (c .before .before .before .before .before .before .before .before .before .before .before .before .before .before .before .before .before .before .before .before .if1
+      .left))
       (c .before .before .before .before .before .before .before .before .before .before .before .before .before .before .before .before .before .before .before .slot-of .ensures)
       (c .before .before .before .before .before .before .before .before .before .before .before .before .before .before .before .before .before .client-of .ensures)
       (c .before .before .before .before .before .before .before .before .before .before .before .before .before .before .before .before .place-in .ensures)
@@ -384,19 +386,23 @@ mul-t75 c = record {
     entry-place _ _ _ _ _ _ (c .before .before .before .before .loop2 .inv)
         ((c .before .before .before .before .before .before .before .before .before .before .before .before .before .before .outcome2 .given .0 .0) .note)
         (asked-one _ _ (c .before .note .given .1))
-        (going-entry _ _ _ _ _ _ _ (c .before .before .before .before .before .before .before .before .before .before .before .before .before .before .before .before .before .before
+        (going-entry _ _ _ _ _ _ _ (c .before .before .before .before .before .before .before .before .before .before .before .before .before .before .before .before .before
+        .before
         .before .before .before .before .before .before .before .before .before .before .before .before .loop .inv .2) _
         (c .before .before .before .before .before .before .before .before .before .before .before .before .before .before .outcome2 .given .0 .0)
         (going-plan _ _ _ _ _ _ _ (c .before .before .before .before .before .before .before .before .before .before .before .before .before .before .before .before .before .before
         .before .before .before .before .before .before .before .before .before .before .before .before .loop .inv .2) _ _ _ _ _ _
-        (sym (c .before .before .before .before .before .before .before .before .before .before .before .before .before .before .before .before .before .before .before .before .before
+        (sym (c .before .before .before .before .before .before .before .before .before .before .before .before .before .before .before .before .before .before .before .before
+        .before
         .before .before .before .before .before .in-rack .ensures)
-        ∙ not-false _ (c .before .before .before .before .before .before .before .before .before .before .before .before .before .before .before .before .before .before .before .before
+        ∙ not-false _ (c .before .before .before .before .before .before .before .before .before .before .before .before .before .before .before .before .before .before .before
+        .before
         .before .before .before .before .before .if1 .left))
         (c .before .before .before .before .before .before .before .before .before .before .before .before .before .before .before .before .before .before .before .before .before
         .before .before .before .slot-of .ensures)
         (c .before .before .before .before .before .before .before .before .before .before .before .before .before .before .before .before .before .before .before .before .before
-        .before .client-of .ensures) (c .before .before .before .before .before .before .before .before .before .before .before .before .before .before .before .before .before .before
+        .before .client-of .ensures) (c .before .before .before .before .before .before .before .before .before .before .before .before .before .before .before .before .before
+        .before
         .before .before .before .place-in .ensures)
         (c .before .before .before .before .before .before .before .before .before .before .before .before .before .before .before .before .before .before .plan .ensures)
         (c .before .before .before .before .before .before .before .before .before .before .before .before .before .before .before .before .checked .ensures)
@@ -433,19 +439,23 @@ add-r c = record {
     entry-place _ _ _ _ _ _ (c .before .before .before .before .loop2 .inv)
         ((c .before .before .before .before .before .before .before .before .before .before .before .before .before .before .outcome2 .given .0 .0) .note)
         (asked-one _ _ (c .before .note .given .1))
-        (going-entry _ _ _ _ _ _ _ (c .before .before .before .before .before .before .before .before .before .before .before .before .before .before .before .before .before .before
+        (going-entry _ _ _ _ _ _ _ (c .before .before .before .before .before .before .before .before .before .before .before .before .before .before .before .before .before
+        .before
         .before .before .before .before .before .before .before .before .before .before .before .before .loop .inv .2) _
         (c .before .before .before .before .before .before .before .before .before .before .before .before .before .before .outcome2 .given .0 .0)
         (going-plan _ _ _ _ _ _ _ (c .before .before .before .before .before .before .before .before .before .before .before .before .before .before .before .before .before .before
         .before .before .before .before .before .before .before .before .before .before .before .before .loop .inv .2) _ _ _ _ _ _
-        (sym (c .before .before .before .before .before .before .before .before .before .before .before .before .before .before .before .before .before .before .before .before .before
+        (sym (c .before .before .before .before .before .before .before .before .before .before .before .before .before .before .before .before .before .before .before .before
+        .before
         .before .before .before .before .before .in-rack .ensures)
-        ∙ not-false _ (c .before .before .before .before .before .before .before .before .before .before .before .before .before .before .before .before .before .before .before .before
+        ∙ not-false _ (c .before .before .before .before .before .before .before .before .before .before .before .before .before .before .before .before .before .before .before
+        .before
         .before .before .before .before .before .if1 .left))
         (c .before .before .before .before .before .before .before .before .before .before .before .before .before .before .before .before .before .before .before .before .before
         .before .before .before .slot-of .ensures)
         (c .before .before .before .before .before .before .before .before .before .before .before .before .before .before .before .before .before .before .before .before .before
-        .before .client-of .ensures) (c .before .before .before .before .before .before .before .before .before .before .before .before .before .before .before .before .before .before
+        .before .client-of .ensures) (c .before .before .before .before .before .before .before .before .before .before .before .before .before .before .before .before .before
+        .before
         .before .before .before .place-in .ensures)
         (c .before .before .before .before .before .before .before .before .before .before .before .before .before .before .before .before .before .before .plan .ensures)
         (c .before .before .before .before .before .before .before .before .before .before .before .before .before .before .before .before .checked .ensures)
@@ -519,19 +529,23 @@ mul-t79 c = record {
     entry-place _ _ _ _ _ _ (c .before .before .before .before .loop2 .inv)
         ((c .before .before .before .before .before .before .before .before .before .before .before .before .before .before .outcome2 .given .0 .0) .note)
         (ended-one _ _ (c .before .note2 .given .1))
-        (going-entry _ _ _ _ _ _ _ (c .before .before .before .before .before .before .before .before .before .before .before .before .before .before .before .before .before .before
+        (going-entry _ _ _ _ _ _ _ (c .before .before .before .before .before .before .before .before .before .before .before .before .before .before .before .before .before
+        .before
         .before .before .before .before .before .before .before .before .before .before .before .before .loop .inv .2) _
         (c .before .before .before .before .before .before .before .before .before .before .before .before .before .before .outcome2 .given .0 .0)
         (going-plan _ _ _ _ _ _ _ (c .before .before .before .before .before .before .before .before .before .before .before .before .before .before .before .before .before .before
         .before .before .before .before .before .before .before .before .before .before .before .before .loop .inv .2) _ _ _ _ _ _
-        (sym (c .before .before .before .before .before .before .before .before .before .before .before .before .before .before .before .before .before .before .before .before .before
+        (sym (c .before .before .before .before .before .before .before .before .before .before .before .before .before .before .before .before .before .before .before .before
+        .before
         .before .before .before .before .before .in-rack .ensures)
-        ∙ not-false _ (c .before .before .before .before .before .before .before .before .before .before .before .before .before .before .before .before .before .before .before .before
+        ∙ not-false _ (c .before .before .before .before .before .before .before .before .before .before .before .before .before .before .before .before .before .before .before
+        .before
         .before .before .before .before .before .if1 .left))
         (c .before .before .before .before .before .before .before .before .before .before .before .before .before .before .before .before .before .before .before .before .before
         .before .before .before .slot-of .ensures)
         (c .before .before .before .before .before .before .before .before .before .before .before .before .before .before .before .before .before .before .before .before .before
-        .before .client-of .ensures) (c .before .before .before .before .before .before .before .before .before .before .before .before .before .before .before .before .before .before
+        .before .client-of .ensures) (c .before .before .before .before .before .before .before .before .before .before .before .before .before .before .before .before .before
+        .before
         .before .before .before .place-in .ensures)
         (c .before .before .before .before .before .before .before .before .before .before .before .before .before .before .before .before .before .before .plan .ensures)
         (c .before .before .before .before .before .before .before .before .before .before .before .before .before .before .before .before .checked .ensures)
@@ -568,19 +582,23 @@ add-r-2 c = record {
     entry-place _ _ _ _ _ _ (c .before .before .before .before .loop2 .inv)
         ((c .before .before .before .before .before .before .before .before .before .before .before .before .before .before .outcome2 .given .0 .0) .note)
         (ended-one _ _ (c .before .note2 .given .1))
-        (going-entry _ _ _ _ _ _ _ (c .before .before .before .before .before .before .before .before .before .before .before .before .before .before .before .before .before .before
+        (going-entry _ _ _ _ _ _ _ (c .before .before .before .before .before .before .before .before .before .before .before .before .before .before .before .before .before
+        .before
         .before .before .before .before .before .before .before .before .before .before .before .before .loop .inv .2) _
         (c .before .before .before .before .before .before .before .before .before .before .before .before .before .before .outcome2 .given .0 .0)
         (going-plan _ _ _ _ _ _ _ (c .before .before .before .before .before .before .before .before .before .before .before .before .before .before .before .before .before .before
         .before .before .before .before .before .before .before .before .before .before .before .before .loop .inv .2) _ _ _ _ _ _
-        (sym (c .before .before .before .before .before .before .before .before .before .before .before .before .before .before .before .before .before .before .before .before .before
+        (sym (c .before .before .before .before .before .before .before .before .before .before .before .before .before .before .before .before .before .before .before .before
+        .before
         .before .before .before .before .before .in-rack .ensures)
-        ∙ not-false _ (c .before .before .before .before .before .before .before .before .before .before .before .before .before .before .before .before .before .before .before .before
+        ∙ not-false _ (c .before .before .before .before .before .before .before .before .before .before .before .before .before .before .before .before .before .before .before
+        .before
         .before .before .before .before .before .if1 .left))
         (c .before .before .before .before .before .before .before .before .before .before .before .before .before .before .before .before .before .before .before .before .before
         .before .before .before .slot-of .ensures)
         (c .before .before .before .before .before .before .before .before .before .before .before .before .before .before .before .before .before .before .before .before .before
-        .before .client-of .ensures) (c .before .before .before .before .before .before .before .before .before .before .before .before .before .before .before .before .before .before
+        .before .client-of .ensures) (c .before .before .before .before .before .before .before .before .before .before .before .before .before .before .before .before .before
+        .before
         .before .before .before .place-in .ensures)
         (c .before .before .before .before .before .before .before .before .before .before .before .before .before .before .before .before .before .before .plan .ensures)
         (c .before .before .before .before .before .before .before .before .before .before .before .before .before .before .before .before .checked .ensures)

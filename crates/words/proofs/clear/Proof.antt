@@ -2,7 +2,7 @@
 use Prim.Native.Nat.{_-_}
 use mathlib.Core.Path.{refl, _∙_}
 use lib.ListN.{length}
-use Rattle.words.proofs.Reading.{Filling, fills, fills-on, fills-long, fills-all, zeros}
+use Rattle.words.proofs.Reading.{Filling, fills, fills-on, fills-long, fills-all, firsts-zero}
 use borrow.Author.Needs.{needs}
 use native.Mathlib.Omega.{arith}
 use Rattle.words.proofs.clear.Statement.{statement}
@@ -36,7 +36,7 @@ same-length : tie.Need-same-length Inv-loop μ-loop
 same-length c = fills-long _ _ _ _ _ (c .before .loop .inv)
 
 returns : tie.Need-returns Inv-loop μ-loop
-returns c = fills-all _ _ _ _ _ (c .before .loop .inv) (omega (arith, fills-long _ _ _ _ _ (c .before .loop .inv))) (omega arith) ∙ zeros _
+returns c = fills-all _ _ _ _ _ (c .before .loop .inv) (omega (arith, fills-long _ _ _ _ _ (c .before .loop .inv))) (omega arith) ∙ firsts-zero _
 
 pub clear-spec : {M : Type 1} → statement M
 clear-spec =
