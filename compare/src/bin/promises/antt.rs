@@ -41,10 +41,12 @@ impl Item {
 
     /// The names of a data type's constructors, or of a record's fields.
     pub fn members(&self) -> Vec<String> {
-        if self.form == Form::Function {
-            return Vec::new();
-        }
-        self.parts.iter().flat_map(|part| member_names(part)).collect()
+        self.member_names().map(str::to_string).collect()
+    }
+
+    pub fn member_names(&self) -> impl Iterator<Item = &str> {
+        let parts = if self.form == Form::Function { &[][..] } else { &self.parts[..] };
+        parts.iter().flat_map(|part| member_words(part))
     }
 
     /// Where the name stands in the head: after the marks and `record` or `data`.
@@ -55,12 +57,13 @@ impl Item {
 
 /// The names that a field or a constructor line declares.
 pub fn member_names(part: &[Token]) -> Vec<String> {
+    member_words(part).map(str::to_string).collect()
+}
+
+fn member_words(part: &[Token]) -> impl Iterator<Item = &str> {
     let end = place_of(part, &[":"]).unwrap_or(0);
-    part[..end]
-        .iter()
-        .filter(|token| token.kind == Kind::Word && token.text != "pub")
-        .map(|token| token.text.clone())
-        .collect()
+    let words = part[..end].iter().filter(|token| token.kind == Kind::Word && token.text != "pub");
+    words.map(|token| token.text.as_str())
 }
 
 /// What a file declares.

@@ -2,6 +2,7 @@
 
 use crate::layout;
 use crate::page::{self, Page};
+use crate::paths;
 use crate::project::Project;
 use crate::reach::Reach;
 use crate::statements;
@@ -28,12 +29,14 @@ impl Examined {
         Ok(Examined { project, page, reach, statements })
     }
 
-    /// What was not understood, what the page names wrongly, what differs from docs/STATEMENTS.txt and from README.md's list.
+    /// What was not understood, what the page names wrongly, what differs from docs/STATEMENTS.txt and from README.md's list, and
+    /// files that other pages name wrongly.
     pub fn faults(&self, root: &Path) -> io::Result<Vec<String>> {
         let mut faults = self.project.faults.clone();
         faults.extend_from_slice(&self.page.faults);
         faults.extend_from_slice(&self.reach.faults);
         faults.extend(self.unproved());
+        faults.extend(paths::faults(&self.project, root)?);
         let stands = fs::read_to_string(root.join(STATEMENTS)).unwrap_or_default();
         faults.extend(statements::differences(&stands, &self.statements));
         let readme = fs::read_to_string(root.join("README.md"))?;

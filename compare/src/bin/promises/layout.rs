@@ -2,6 +2,7 @@
 
 use crate::project::{Place, Project};
 use crate::reach::Reach;
+use crate::tokens::wrapped;
 use std::collections::{BTreeMap, BTreeSet};
 
 const BEGIN: &str = "<!-- files to read -->";
@@ -67,14 +68,15 @@ pub fn check_readme(project: &Project, reach: &Reach, readme: &str) -> Vec<Strin
     missing.chain(idle).collect()
 }
 
-/// README.md with its list written anew, a line for each crate; none where the markers are missing.
+/// README.md with its list written anew, an item for each crate; none where the markers are missing.
 pub fn write_readme(project: &Project, reach: &Reach, readme: &str) -> Option<String> {
     let (before, after) = readme.split_once(BEGIN)?;
     let (_, behind) = after.split_once(END)?;
     let mut block = String::new();
     for (krate, files) in files(project, reach) {
         let names: Vec<String> = files.iter().map(|file| format!("`{file}`")).collect();
-        block += &format!("- {}: {}\n", project.crates[krate].name, names.join(", "));
+        let item = format!("- {}: {}", project.crates[krate].name, names.join(", "));
+        block += &(wrapped(&item, "  ", "").join("\n") + "\n");
     }
     Some(format!("{before}{BEGIN}\n{block}{END}{behind}"))
 }

@@ -8,6 +8,7 @@ mod free;
 mod imports;
 mod layout;
 mod page;
+mod paths;
 mod project;
 mod reach;
 mod resolve;

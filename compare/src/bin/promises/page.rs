@@ -21,6 +21,8 @@ pub struct Page {
     pub called: BTreeSet<Place>,
     /// Those that it says have no contract.
     pub without_contract: BTreeSet<Place>,
+    /// Must-fail edits that it names, by crate.
+    pub edits: BTreeSet<(usize, String)>,
     /// How many names were looked up.
     pub tried: usize,
     pub faults: Vec<String>,
@@ -42,7 +44,7 @@ struct Said<'a> {
 enum Found {
     Item(Place),
     Call(Place),
-    Edit,
+    Edit(usize, String),
     Crate,
 }
 
@@ -79,6 +81,7 @@ pub fn read(project: &Project, text: &str) -> Page {
         }
     }
     page.check_calls(project);
+    page.check_edits(project);
     page
 }
 
@@ -96,7 +99,10 @@ impl Page {
                     self.called.insert(place);
                 }
             }
-            Found::Edit | Found::Crate => {}
+            Found::Edit(krate, name) => {
+                self.edits.insert((krate, name));
+            }
+            Found::Crate => {}
         }
     }
 
@@ -114,6 +120,16 @@ impl Page {
                 let what =
                     if promises { "a contract, and docs/PROMISES.md says that it has none" } else { "no contract" };
                 self.faults.push(format!("{path}: the public function {} has {what}", item.full_name()));
+            }
+        }
+    }
+
+    /// Every must-fail edit is on the page.
+    fn check_edits(&mut self, project: &Project) {
+        for (krate, read) in project.crates.iter().enumerate() {
+            for name in read.edits.keys().filter(|name| !self.edits.contains(&(krate, name.to_string()))) {
+                let path = project.path_of(krate, &format!("must-fail/{name}.edit"));
+                self.faults.push(format!("{path}: docs/PROMISES.md doesn't name it"));
             }
         }
     }
@@ -177,8 +193,8 @@ fn look_up(project: &Project, section: &[usize], said: &Said) -> Result<Found, S
     let items = items_named(project, &crates, said, false);
     let edits = crates
         .iter()
-        .filter(|&&krate| project.crates[krate].edits.iter().any(|edit| edit == said.name))
-        .map(|_| Found::Edit);
+        .filter(|&&krate| project.crates[krate].edits.contains_key(said.name))
+        .map(|&krate| Found::Edit(krate, said.name.to_string()));
     let mut found: Vec<Found> = items;
     if said.file.is_none() {
         found.extend(edits);

@@ -13,10 +13,14 @@ pub struct Crate {
     pub name: String,
     /// Files of definitions and theorems, by their path in the crate: `specs/laws/Steps.antt`.
     pub specs: BTreeMap<String, Definitions>,
+    /// Files of proofs. What they say counts for no promise; names that they bring or declare do.
+    pub proofs: BTreeMap<String, Definitions>,
     /// Files of code: `src/lib.rt`.
     pub code: BTreeMap<String, Code>,
-    /// Names of must-fail edits.
-    pub edits: Vec<String>,
+    /// Must-fail edits by name, each with its lines but comments.
+    pub edits: BTreeMap<String, Vec<String>>,
+    /// Files that assume something.
+    pub assuming: Vec<String>,
 }
 
 /// Where an item stands. The order is that of crates.txt, then files by name, then as in the file.
@@ -50,7 +54,7 @@ impl Project {
                 project.faults.push(format!("crates/{name}: not in crates.txt"));
             }
         }
-        project.faults.extend(imports::faults(&project, root)?);
+        project.faults.extend(imports::faults(&project));
         Ok(project)
     }
 
@@ -125,15 +129,24 @@ pub fn files_below(base: &Path, folder: &str, ending: &str) -> io::Result<Vec<(S
 fn read_crate(root: &Path, name: &str) -> io::Result<Crate> {
     let base = root.join("crates").join(name);
     let mut krate = Crate { name: name.to_string(), ..Crate::default() };
-    for (file, path) in files_below(&base, "specs", ".antt")? {
-        krate.specs.insert(file, antt::parse(&fs::read_to_string(path)?));
+    for folder in ["specs", "proofs"] {
+        for (file, path) in files_below(&base, folder, ".antt")? {
+            let text = fs::read_to_string(path)?;
+            if imports::assumes(&text) {
+                krate.assuming.push(file.clone());
+            }
+            let files = if folder == "specs" { &mut krate.specs } else { &mut krate.proofs };
+            files.insert(file, antt::parse(&text));
+        }
     }
     for (file, path) in files_below(&base, "src", ".rt")? {
         krate.code.insert(file, rt::parse(&fs::read_to_string(path)?));
     }
-    for (file, _) in files_below(&base, "must-fail", ".edit")? {
-        let name = file.rsplit('/').next().unwrap_or("").trim_end_matches(".edit").to_string();
-        krate.edits.push(name);
+    for (file, path) in files_below(&base, "must-fail", ".edit")? {
+        let name = file.trim_start_matches("must-fail/").trim_end_matches(".edit").to_string();
+        let text = fs::read_to_string(path)?;
+        let said = text.lines().filter(|line| !line.starts_with('#') && !line.trim().is_empty());
+        krate.edits.insert(name, said.map(|line| line.trim_end().to_string()).collect());
     }
     Ok(krate)
 }

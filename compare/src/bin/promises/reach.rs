@@ -8,7 +8,7 @@ use crate::trees::{place_of, trees, Node};
 use std::collections::{BTreeMap, BTreeSet};
 
 /// Words of a contract that no `use` line brings: its marks, lent memory as it stands, and a method's receiver.
-const CONTRACT_WORDS: [&str; 4] = ["⌜", "⌝", "now", "self"];
+pub const CONTRACT_WORDS: [&str; 4] = ["⌜", "⌝", "now", "self"];
 
 /// The names that a file's listed items have from its `use` lines, by path.
 pub type Brought = BTreeMap<String, BTreeSet<String>>;

@@ -10,6 +10,7 @@ enum Piece {
     Mark(char),
     /// `requires` or `ensures` with its braces.
     Clause(String),
+    /// What stands behind `ghost use`, up to its semicolon.
     GhostUse(String),
     Quoted(String),
 }
@@ -56,6 +57,10 @@ pub struct Code {
     /// Lines of the kind `pub mod NAME;`.
     pub modules: Vec<String>,
     pub items: Vec<Item>,
+    /// The names of all functions, public or not.
+    pub functions: Vec<String>,
+    /// What was not understood, or may not stand in code.
+    pub faults: Vec<String>,
 }
 
 /// A piece, the place of its first character and that after its last.
@@ -72,25 +77,30 @@ pub fn parse(source: &str) -> Code {
 /// The pieces of a file; comments are none.
 fn pieces(source: &[char]) -> Vec<Placed> {
     let mut found: Vec<Placed> = Vec::new();
-    let mut at = 0;
+    let mut at = after_blank(source, 0);
     while at < source.len() {
-        let c = source[at];
-        let next = source.get(at + 1).copied().unwrap_or(' ');
-        if c.is_whitespace() {
-            at += 1;
-        } else if c == '/' && next == '/' {
-            at = place_after(source, at, '\n');
-        } else if c == '/' && next == '*' {
-            at = (at + 2..source.len())
-                .find(|&end| source[end] == '/' && source[end - 1] == '*')
-                .map_or(source.len(), |end| end + 1);
-        } else {
-            let (piece, end) = piece_at(source, at);
-            found.push((piece, at, end));
-            at = end;
-        }
+        let (piece, end) = piece_at(source, at);
+        found.push((piece, at, end));
+        at = after_blank(source, end);
     }
     found
+}
+
+/// The next place that is in no space and in no comment.
+fn after_blank(source: &[char], from: usize) -> usize {
+    let mut at = from;
+    while at < source.len() {
+        let next = source.get(at + 1).copied().unwrap_or(' ');
+        at = match (source[at], next) {
+            ('/', '/') => place_after(source, at, '\n'),
+            ('/', '*') => (at + 3..source.len())
+                .find(|&end| source[end] == '/' && source[end - 1] == '*')
+                .map_or(source.len(), |end| end + 1),
+            (c, _) if c.is_whitespace() => at + 1,
+            _ => return at,
+        };
+    }
+    at
 }
 
 /// The piece at a place, and the place after it.
@@ -115,12 +125,21 @@ fn piece_at(source: &[char], at: usize) -> (Piece, usize) {
             let end = end_of_braces(source, end);
             (Piece::Clause(text_of(&source[at..end])), end)
         }
-        "ghost" if text_of(&source[end..(end + 5).min(source.len())]) == " use " => {
-            let end = place_after(source, end, ';');
-            (Piece::GhostUse(text_of(&source[at..end])), end)
-        }
+        "ghost" => match after_use(source, end) {
+            Some(from) => {
+                let end = place_after(source, from, ';');
+                (Piece::GhostUse(text_of(&source[from..end])), end)
+            }
+            None => (Piece::Word(word), end),
+        },
         _ => (Piece::Word(word), end),
     }
+}
+
+/// The place after the word `use`, where that comes next.
+fn after_use(source: &[char], from: usize) -> Option<usize> {
+    let rest = source[after_blank(source, from)..].strip_prefix(&['u', 's', 'e'])?;
+    (!rest.first().is_some_and(|&c| is_word_character(c))).then_some(source.len() - rest.len())
 }
 
 fn is_word_character(c: char) -> bool {
@@ -171,27 +190,51 @@ fn read_items(source: &[char], all: &[Placed], owner: Option<(&str, &str)>, code
     let mut at = 0;
     while at < all.len() {
         let end = item_end(all, at);
-        let item = &all[at..end];
-        if let (Piece::GhostUse(text), _, _) = &all[at] {
-            read_ghost_use(text, code);
-        }
-        let keyword = keyword_place(item);
-        match keyword.map(|at| (&item[at].0, at)) {
-            Some((Piece::Word(word), at)) if word == "impl" || word == "mod" => read_inner(source, item, at, code),
-            Some((Piece::Word(word), at)) if word == "use" => read_code_use(&item[at + 1..], code),
-            Some((Piece::Word(word), at)) => read_item(source, item, word, at, owner, code),
-            _ => {}
+        if read_one(source, &all[at..end], owner, code).is_none() {
+            code.faults.push(misunderstood(source, &all[at..end]));
         }
         at = end;
     }
 }
 
-const KEYWORDS: [&str; 7] = ["fn", "struct", "enum", "const", "impl", "mod", "use"];
+/// Reads an item; none where it isn't understood.
+fn read_one(source: &[char], item: &[Placed], owner: Option<(&str, &str)>, code: &mut Code) -> Option<()> {
+    if let [(Piece::GhostUse(text), _, _)] = item {
+        code.ghost_uses.push(read_use(&tokens(text)));
+        return Some(());
+    }
+    let keyword = keyword_place(item)?;
+    match word_of(&item[keyword].0)? {
+        "impl" | "mod" if owner.is_none() => read_inner(source, item, keyword, code),
+        "use" if owner.is_none() => read_code_use(item, keyword, code),
+        word if ITEMS.contains(&word) => read_item(source, item, word, keyword, owner, code),
+        _ => None,
+    }
+}
 
-/// The place of the word that says what an item is.
+const ITEMS: [&str; 4] = ["fn", "struct", "enum", "const"];
+
+/// The place of the word that says what an item is: only `#[no_mangle]`, `pub`, `extern "C"` and, of a function, `const` may stand before it.
 fn keyword_place(item: &[Placed]) -> Option<usize> {
-    let at = item.iter().position(|piece| KEYWORDS.iter().any(|word| is(Some(piece), word)))?;
-    Some(if is(item.get(at + 1), "fn") { at + 1 } else { at })
+    let kept_name = is_mark(item.first(), '#')
+        && is_mark(item.get(1), '[')
+        && is(item.get(2), "no_mangle")
+        && is_mark(item.get(3), ']');
+    let mut at = if kept_name { 4 } else { 0 };
+    at += usize::from(is(item.get(at), "pub"));
+    let quoted = matches!(item.get(at + 1), Some((Piece::Quoted(_), _, _)));
+    if is(item.get(at), "extern") && quoted && is(item.get(at + 2), "fn") {
+        at += 2;
+    }
+    at += usize::from(is(item.get(at), "const") && is(item.get(at + 1), "fn"));
+    (at < item.len()).then_some(at)
+}
+
+fn misunderstood(source: &[char], item: &[Placed]) -> String {
+    let from = item[0].1;
+    let line = source[..from].iter().filter(|&&c| c == '\n').count() + 1;
+    let text: String = source[from..].iter().take_while(|&&c| c != '\n').take(60).collect();
+    format!("line {line}: not understood: {text}")
 }
 
 /// An item ends with a semicolon, or with the brace that closes its own; a ghost line is one piece.
@@ -218,20 +261,21 @@ fn item_end(all: &[Placed], from: usize) -> usize {
     all.len()
 }
 
-fn read_ghost_use(text: &str, code: &mut Code) {
-    let line = tokens(text);
-    if line.get(1).is_some_and(|token| token.is_word("use")) {
-        code.ghost_uses.push(read_use(&line[2..]));
-    }
-}
-
 /// `use a::b::C;`, `use a::C as D;`.
-fn read_code_use(line: &[Placed], code: &mut Code) {
+fn read_code_use(item: &[Placed], keyword: usize, code: &mut Code) -> Option<()> {
+    let (last, line) = item[keyword + 1..].split_last()?;
+    let plain = line.iter().all(|(piece, _, _)| matches!(piece, Piece::Word(_) | Piece::Mark(':')));
+    if !plain || !is_mark(Some(last), ';') {
+        return None;
+    }
     let words: Vec<String> = line.iter().filter_map(|(piece, _, _)| word_of(piece)).map(str::to_string).collect();
     let end = words.iter().position(|word| word == "as").unwrap_or(words.len());
-    if let Some(local) = words.last() {
-        code.uses.push((local.clone(), words[..end].to_vec()));
+    let local = words.last()?;
+    if keyword > 0 {
+        code.faults.push(format!("pub use {local}: a public name that docs/PROMISES.md can't have a row for"));
     }
+    code.uses.push((local.clone(), words[..end].to_vec()));
+    Some(())
 }
 
 fn word_of(piece: &Piece) -> Option<&str> {
@@ -242,20 +286,30 @@ fn word_of(piece: &Piece) -> Option<&str> {
 }
 
 /// What stands in the braces of an `impl` or a module, or the name of a module that is a file of its own.
-fn read_inner(source: &[char], item: &[Placed], keyword: usize, code: &mut Code) {
+fn read_inner(source: &[char], item: &[Placed], keyword: usize, code: &mut Code) -> Option<()> {
+    let is_impl = is(item.get(keyword), "impl");
     let open = item.iter().position(|piece| is_mark(Some(piece), '{')).unwrap_or(item.len());
-    let mut words = item[keyword + 1..open].iter().filter_map(|(piece, _, _)| word_of(piece));
-    let name = words.find(|word| !word.starts_with('\'')).unwrap_or("").to_string();
+    let said = &item[keyword + 1..open];
+    let mut words = said.iter().filter_map(|(piece, _, _)| word_of(piece));
+    if words.clone().any(|word| word == "for") {
+        return None;
+    }
+    let name = words.find(|word| !word.starts_with('\''))?.to_string();
     if open == item.len() {
+        let alone = said.len() == 2 && is_mark(said.last(), ';');
         code.modules.push(name);
-        return;
+        return (!is_impl && alone).then_some(());
+    }
+    if !is_mark(item.last(), '}') {
+        return None;
     }
     let header = normal_lines(source, item[0].1, item[open].1).join(" ");
-    let owner = is(item.get(keyword), "impl").then_some((name.as_str(), header.as_str()));
+    let owner = is_impl.then_some((name.as_str(), header.as_str()));
     read_items(source, &item[open + 1..item.len() - 1], owner, code);
+    Some(())
 }
 
-/// A public function, a type or a constant. Other functions are no part of what is promised.
+/// A public function, a type or a constant. Of other functions only the name counts: they are no part of what is promised.
 fn read_item(
     source: &[char],
     item: &[Placed],
@@ -263,7 +317,7 @@ fn read_item(
     keyword: usize,
     owner: Option<(&str, &str)>,
     code: &mut Code,
-) {
+) -> Option<()> {
     let form = match word {
         "fn" => Form::Function,
         "struct" => Form::Struct,
@@ -271,9 +325,17 @@ fn read_item(
         _ => Form::Const,
     };
     let public = item[..keyword].iter().any(|piece| is(Some(piece), "pub"));
-    let Some(name) = item.get(keyword + 1).and_then(|(piece, _, _)| word_of(piece)) else { return };
-    if form == Form::Function && !public {
-        return;
+    let name = item.get(keyword + 1).and_then(|(piece, _, _)| word_of(piece))?;
+    let has_ghost = item.iter().any(|piece| is(Some(piece), "ghost") || matches!(piece.0, Piece::GhostUse(_)));
+    let has_end = is_mark(item.last(), '}') || (form != Form::Function && is_mark(item.last(), ';'));
+    if has_ghost || !has_end {
+        return None;
+    }
+    if form == Form::Function {
+        code.functions.push(name.to_string());
+        if !public {
+            return Some(());
+        }
     }
     let body = if form == Form::Function { item.iter().position(|piece| is_mark(Some(piece), '{')) } else { None };
     let said = &item[..body.unwrap_or(item.len())];
@@ -285,6 +347,7 @@ fn read_item(
     let clauses = said.iter().filter_map(|(piece, _, _)| clause_of(piece)).collect();
     let owner = owner.map(|(name, _)| name.to_string());
     code.items.push(Item { name: name.to_string(), form, owner, text, paths, variants, parameters, clauses });
+    Some(())
 }
 
 /// The lines from a place to another without comments, with single spaces; each keeps how far it is indented beyond the first.
@@ -353,7 +416,7 @@ fn path_at(said: &[Placed], from: usize, first: &str) -> (Vec<String>, usize) {
 }
 
 /// Words that name no item: those of the language, its own types, numbers and lifetimes.
-fn is_code_word(word: &str) -> bool {
+pub fn is_code_word(word: &str) -> bool {
     const WORDS: [&str; 19] = [
         "pub", "mut", "self", "Self", "bool", "u8", "u16", "u32", "u64", "usize", "i8", "i16", "i32", "i64", "isize",
         "u128", "i128", "str", "as",
@@ -399,5 +462,41 @@ impl Rack {
         assert_eq!(code.items[2].clauses.len(), 2);
         assert_eq!(code.items[2].text[1], "  pub fn made(n: u32, rack: &mut [Rack; 8]) -> Made");
         assert_eq!(code.uses[0].1, ["method", "Held"]);
+        assert!(code.faults.is_empty(), "{:?}", code.faults);
+    }
+
+    #[test]
+    fn what_is_not_understood_is_a_fault() {
+        let strange = [
+            "extern \"C\" {\n    fn f(n: u32) -> u32;\n}",
+            "axiom fn f(n: u32) -> u32;",
+            "impl T for Foo {}",
+            "impl Foo {",
+            "impl {}",
+            "impl",
+            "pub trait T {}",
+            "pub fn f();",
+            "pub fn",
+            "pub use a::b as c;",
+            "use a::{b, c};",
+            "use a::*;",
+            "ghost fn f() {}",
+            "fn f() { ghost use a.{b}; }",
+            "#[cfg(test)] pub fn f() {}",
+            "}",
+            "pub struct",
+            "enum E {",
+            "pub fn f() ensures",
+        ];
+        for source in strange {
+            assert_eq!(parse(source).faults.len(), 1, "{source}");
+        }
+    }
+
+    #[test]
+    fn spaces_in_a_ghost_line() {
+        let code = parse("ghost  use lib.A.{b};\nghost\n /* why */ use lib.C.{d};");
+        let paths: Vec<&str> = code.ghost_uses.iter().map(|line| line.path.as_str()).collect();
+        assert_eq!(paths, ["lib.A", "lib.C"]);
     }
 }

@@ -3,20 +3,24 @@
 use crate::antt::{Form, Item};
 use crate::project::{Place, Project};
 use crate::reach::Reach;
-use crate::tokens::as_lines;
+use crate::tokens::{as_lines, wrapped};
 use std::collections::BTreeSet;
 
 const HEADER: &str = "\
 # What has to be believed, whole: the contract of every public function, what every theorem says that docs/PROMISES.md names, and every definition that
 # these name, down to the kit's library. Written by `compare/promises --write`; the gate holds the sources to it (`compare/promises`), so that nothing here is
-# removed, weakened or changed unseen. Each entry has the headers of the modules around it, whose parameters are hypotheses too.
+# removed, weakened or changed unseen. Each entry has the headers of the modules around it, whose parameters are hypotheses too. A line that ends with \\ goes on.
 ";
 
-const PARTS: [&str; 4] = [
+/// What ends a line that goes on with the next one.
+const GOES_ON: &str = " \\";
+
+const PARTS: [&str; 5] = [
     "Part 1: the contracts of the public functions",
     "Part 2: the theorems, what each says",
     "Part 3: the definitions, whole",
     "Part 4: where the names come from that a file has from its `use` lines",
+    "Part 5: the must-fail edits: file, old text and new text",
 ];
 
 /// The whole page.
@@ -32,7 +36,7 @@ pub fn write(project: &Project, reach: &Reach) -> String {
                 last = path;
             }
             for line in entry(project, place, *part == PARTS[1]) {
-                text += &format!("  {line}\n");
+                add_line(&mut text, &format!("  {line}"));
             }
         }
     }
@@ -41,10 +45,39 @@ pub fn write(project: &Project, reach: &Reach) -> String {
         text += &format!("\n{}\n", project.path_of(*krate, file));
         for (path, names) in brought {
             let names: Vec<&str> = names.iter().map(String::as_str).collect();
-            text += &format!("  {path}: {}\n", names.join(", "));
+            add_line(&mut text, &format!("  {path}: {}", names.join(", ")));
+        }
+    }
+    text += &format!("\n== {}\n", PARTS[4]);
+    for krate in &project.crates {
+        for (name, lines) in &krate.edits {
+            text += &format!("\ncrates/{}/must-fail/{name}.edit\n", krate.name);
+            for line in lines {
+                let indent = if line.starts_with("file:") { "  " } else { "    " };
+                add_line(&mut text, &format!("{indent}{line}"));
+            }
         }
     }
     text
+}
+
+/// Adds a line, broken where it is too long.
+fn add_line(text: &mut String, line: &str) {
+    let indent = " ".repeat(line.len() - line.trim_start().len() + 4);
+    *text += &(wrapped(line, &indent, GOES_ON).join("\n") + "\n");
+}
+
+/// A page with its broken lines whole again.
+fn joined(text: &str) -> String {
+    let mut whole = String::new();
+    let mut goes_on = false;
+    for line in text.lines() {
+        let said = if goes_on { line.trim_start() } else { line };
+        goes_on = said.ends_with(GOES_ON);
+        whole += said.strip_suffix(GOES_ON).unwrap_or(said);
+        whole.push(if goes_on { ' ' } else { '\n' });
+    }
+    whole
 }
 
 /// An entry's lines: the first is not indented, all others are, or close a bracket.
@@ -99,8 +132,9 @@ fn entries(text: &str) -> Vec<(String, String)> {
 
 /// What was removed from the page that stands, and what is new, each with its file. A change is both.
 pub fn differences(stands: &str, now: &str) -> Vec<String> {
+    let (stands, now) = (joined(stands), joined(now));
     let (old, new): (BTreeSet<_>, BTreeSet<_>) =
-        (entries(stands).into_iter().collect(), entries(now).into_iter().collect());
+        (entries(&stands).into_iter().collect(), entries(&now).into_iter().collect());
     let removed = old.difference(&new).map(|(file, entry)| (file, 0, entry));
     let added = new.difference(&old).map(|(file, entry)| (file, 1, entry));
     let mut both: Vec<(&String, usize, &String)> = removed.chain(added).collect();
@@ -125,5 +159,11 @@ mod tests {
             ["Part 1, crates/a: removed:\n  f\n    g", "Part 1, crates/a: added:\n  f\n    k"]
         );
         assert!(differences(old, old).is_empty());
+    }
+
+    #[test]
+    fn where_a_line_is_broken_is_no_difference() {
+        let (old, new) = ("== Part 1: x\n\ncrates/a\n  f \\\n      g\n", "== Part 1: x\n\ncrates/a\n  f g\n");
+        assert!(differences(old, new).is_empty());
     }
 }

@@ -161,6 +161,24 @@ pub fn as_lines(tokens: &[Token], column: usize) -> Vec<String> {
     lines
 }
 
+/// How long a line of a page is at most.
+const WIDTH: usize = 180;
+
+/// A line, broken at spaces where it is too long: what follows begins with `indent`, and a line that goes on ends with `mark`.
+pub fn wrapped(line: &str, indent: &str, mark: &str) -> Vec<String> {
+    let mut lines = Vec::new();
+    let mut rest = line.to_string();
+    while rest.chars().count() > WIDTH {
+        let begin = rest.len() - rest.trim_start().len();
+        let ends = rest.char_indices().take(WIDTH + 1 - mark.len()).filter(|&(at, c)| c == ' ' && at > begin);
+        let Some((at, _)) = ends.last() else { break };
+        lines.push(rest[..at].to_string() + mark);
+        rest = indent.to_string() + &rest[at + 1..];
+    }
+    lines.push(rest);
+    lines
+}
+
 #[cfg(test)]
 mod tests {
     use super::*;
@@ -173,6 +191,15 @@ mod tests {
     fn names_and_marks() {
         assert_eq!(words("λ x. r .field ∷ []"), ["λ", "x", ".", "r", ".", "field", "∷", "[]"]);
         assert_eq!(words("f {A = ℕ} -- why\n{- {- in -} -} g"), ["f", "{", "A", "=", "ℕ", "}", "g"]);
+    }
+
+    #[test]
+    fn long_lines_are_broken_at_spaces() {
+        let line = "  ".to_string() + &"word ".repeat(50);
+        let lines = wrapped(line.trim_end(), "    ", " \\");
+        assert_eq!(lines.len(), 2);
+        assert!(lines.iter().all(|line| line.len() <= WIDTH));
+        assert_eq!(lines.concat().replace(" \\   ", ""), line.trim_end());
     }
 
     #[test]

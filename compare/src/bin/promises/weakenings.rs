@@ -1,13 +1,15 @@
 //! Ways to promise less, each made on a copy of the sources: every one has to be found, and the copy as it is has no fault.
 
 use crate::examine::Examined;
+use crate::paths;
 use crate::project::files_below;
 use crate::say;
 use std::fs;
 use std::io;
 use std::path::{Path, PathBuf};
 
-/// A text in a file that becomes another. The file is looked for by its name anywhere in the crate; without a crate it is a path in the repository.
+/// A text in a file that becomes another. The file is looked for by its name anywhere in the crate; without a crate it is a path in the repository. Without an
+/// old text the file is new.
 struct Edit {
     krate: &'static str,
     file: &'static str,
@@ -60,7 +62,12 @@ const WEAKENINGS: &[Weakening] = &[
     },
     Weakening {
         label: "a hypothesis on a second line of a statement",
-        edits: &[edit("counts", "Requests.antt", "  pub present : (c : ℕ) → 1 ≤ partyAt (rackAfter replicas clients cells allowance ws) c .op\n", "  pub present : (c : ℕ) → 1 ≤ partyAt (rackAfter replicas clients cells allowance ws) c .op\n      → ⊥\n")],
+        edits: &[edit(
+            "counts",
+            "Requests.antt",
+            "  pub present : (c : ℕ) → 1 ≤ partyAt (rackAfter replicas clients cells allowance ws) c .op\n",
+            "  pub present : (c : ℕ) → 1 ≤ partyAt (rackAfter replicas clients cells allowance ws) c .op\n      → ⊥\n",
+        )],
         mentions: "present",
     },
     Weakening {
@@ -215,6 +222,175 @@ const WEAKENINGS: &[Weakening] = &[
         edits: &[edit("number", "OnlyOne.antt", "use Prim.Native.Nat.{ℕ}\n", "use Prim.Native.Nat.{ℕ}\nuse Kid.*\n")],
         mentions: "Kid.*",
     },
+    Weakening {
+        label: "a symbol of the contracts from another path, with two spaces",
+        edits: &[
+            edit("number", "lib.rt", "ghost use mathlib.Core.Path.{_≡_};\n", "ghost  use lib.Loose.{_≡_};\n"),
+        ],
+        mentions: "lib.Loose",
+    },
+    Weakening {
+        label: "a symbol of the contracts from another path, with a line break",
+        edits: &[
+            edit("number", "lib.rt", "ghost use mathlib.Core.Path.{_≡_};\n", "ghost\n    use lib.Loose.{_≡_};\n"),
+        ],
+        mentions: "lib.Loose",
+    },
+    Weakening {
+        label: "a symbol of the contracts from another path, with a comment",
+        edits: &[
+            edit("number", "lib.rt", "ghost use mathlib.Core.Path.{_≡_};\n", "ghost /* why */ use lib.Loose.{_≡_};\n"),
+        ],
+        mentions: "lib.Loose",
+    },
+    Weakening {
+        label: "a ghost line that is no use line",
+        edits: &[
+            edit("number", "lib.rt", "ghost use mathlib.Core.Path.{_≡_};\n", "ghost use mathlib.Core.Path.{_≡_};\nghost open lib.Loose;\n"),
+        ],
+        mentions: "not understood: ghost open",
+    },
+    Weakening {
+        label: "the contracts' marks from elsewhere",
+        edits: &[
+            edit("number", "lib.rt", "ghost use mathlib.Core.Path.{_≡_};\n", "ghost use mathlib.Core.Path.{_≡_};\nghost use lib.Loose.{anything as ⌜_⌝};\n"),
+        ],
+        mentions: "lib.rt: ⌜_⌝ is a word",
+    },
+    Weakening {
+        label: "the contracts' word for memory as it stands from elsewhere",
+        edits: &[
+            edit("number", "lib.rt", "ghost use mathlib.Core.Path.{_≡_};\n", "ghost use mathlib.Core.Path.{_≡_};\nghost use lib.Loose.{anything as now};\n"),
+        ],
+        mentions: "lib.rt: now is a word",
+    },
+    Weakening {
+        label: "the contracts' word for a method's receiver from elsewhere",
+        edits: &[
+            edit("number", "lib.rt", "ghost use mathlib.Core.Path.{_≡_};\n", "ghost use mathlib.Core.Path.{_≡_};\nghost use lib.Loose.{anything as self};\n"),
+        ],
+        mentions: "lib.rt: self is a word",
+    },
+    Weakening {
+        label: "the sign for pairs from elsewhere, in code",
+        edits: &[
+            edit("number", "lib.rt", "ghost use mathlib.Core.Path.{_≡_};\n", "ghost use mathlib.Core.Path.{_≡_};\nghost use lib.Loose.{anything as _×_};\n"),
+        ],
+        mentions: "lib.rt: _×_ is a word",
+    },
+    Weakening {
+        label: "the word for types from elsewhere, in code",
+        edits: &[
+            edit("number", "lib.rt", "ghost use mathlib.Core.Path.{_≡_};\n", "ghost use mathlib.Core.Path.{_≡_};\nghost use lib.Loose.{anything as Type};\n"),
+        ],
+        mentions: "lib.rt: Type is a word",
+    },
+    Weakening {
+        label: "the sign for pairs means a choice",
+        edits: &[
+            edit("number", "Number.antt", "use lib.Dec.{ltb, leb, eqb}\n", "use lib.Dec.{ltb, leb, eqb}\nuse mathlib.Core.Logic.{_⊎_ as _×_}\n"),
+        ],
+        mentions: "Number.antt: _×_ is a word",
+    },
+    Weakening {
+        label: "the word for types from elsewhere",
+        edits: &[
+            edit("number", "Number.antt", "use lib.Dec.{ltb, leb, eqb}\n", "use lib.Dec.{ltb, leb, eqb}\nuse lib.Loose.{x as Type}\n"),
+        ],
+        mentions: "Number.antt: Type is a word",
+    },
+    Weakening {
+        label: "the sign for pairs defined",
+        edits: &[
+            edit("number", "OnlyOne.antt", "-- ---- read_number\n", "abbrev pub _×_ : Type 0 → Type 0 → Type 0\nA × B = Unit {0}\n\n-- ---- read_number\n"),
+        ],
+        mentions: "OnlyOne.antt: _×_ is a word",
+    },
+    Weakening {
+        label: "the sign for functions defined",
+        edits: &[
+            edit("number", "OnlyOne.antt", "-- ---- read_number\n", "abbrev pub _→_ : Type 0\n_→_ = Unit {0}\n\n-- ---- read_number\n"),
+        ],
+        mentions: "OnlyOne.antt: _→_ is a word",
+    },
+    Weakening {
+        label: "the word for types defined",
+        edits: &[
+            edit("number", "OnlyOne.antt", "-- ---- read_number\n", "pub record Type : Unit where\n  pub one : Unit\n\n-- ---- read_number\n"),
+        ],
+        mentions: "OnlyOne.antt: Type is a word",
+    },
+    Weakening {
+        label: "a type of code for the words of memory",
+        edits: &[
+            edit("record", "lib.rt", "pub struct Client(pub u8);", "pub struct u8();\npub struct Client(pub u8);"),
+        ],
+        mentions: "lib.rt: u8 is a word",
+    },
+    Weakening {
+        label: "a module with a library's name",
+        edits: &[
+            edit("number", "Lib.antt", "pub mod Number\n", "pub mod Number\npub mod lib\n"),
+            edit("", "crates/number/specs/lib/Dec.antt", "", "-- other comparisons\n"),
+        ],
+        mentions: "the module lib has the name of a library",
+    },
+    Weakening {
+        label: "a module of a proof with a library's name",
+        edits: &[
+            edit("", "crates/number/proofs/mathlib/Core.antt", "", "-- other definitions\n"),
+        ],
+        mentions: "the module mathlib has the name of a library",
+    },
+    Weakening {
+        label: "a public function under a second name",
+        edits: &[
+            edit("text", "lib.rt", "// Words, as bytes.\npub fn put_words", "pub use number::read_number as take;\n\n// Words, as bytes.\npub fn put_words"),
+        ],
+        mentions: "pub use take",
+    },
+    Weakening {
+        label: "several names in one line of code",
+        edits: &[
+            edit("text", "lib.rt", "// Words, as bytes.\npub fn put_words", "use number::{read_number, signed};\n\n// Words, as bytes.\npub fn put_words"),
+        ],
+        mentions: "not understood: use number",
+    },
+    Weakening {
+        label: "a block of foreign functions in code",
+        edits: &[
+            edit("text", "lib.rt", "// Words, as bytes.\npub fn put_words", "extern \"C\" {\n    fn take(n: u32) -> u32;\n}\n\n// Words, as bytes.\npub fn put_words"),
+        ],
+        mentions: "not understood: extern",
+    },
+    Weakening {
+        label: "a function that is assumed in code",
+        edits: &[
+            edit("text", "lib.rt", "// Words, as bytes.\npub fn put_words", "axiom fn take(n: u32) -> u32;\n\n// Words, as bytes.\npub fn put_words"),
+        ],
+        mentions: "not understood: axiom fn",
+    },
+    Weakening {
+        label: "an implementation for a trait in code",
+        edits: &[
+            edit("text", "lib.rt", "// Words, as bytes.\npub fn put_words", "impl Take for Foo {\n    fn take(self) {}\n}\n\n// Words, as bytes.\npub fn put_words"),
+        ],
+        mentions: "not understood: impl Take",
+    },
+    Weakening {
+        label: "a trait in code",
+        edits: &[
+            edit("text", "lib.rt", "// Words, as bytes.\npub fn put_words", "pub trait Take {\n    fn take(self);\n}\n\n// Words, as bytes.\npub fn put_words"),
+        ],
+        mentions: "not understood: pub trait",
+    },
+    Weakening {
+        label: "braces without an end in code",
+        edits: &[
+            edit("text", "lib.rt", "// Words, as bytes.\npub fn put_words", "impl Foo {\n\n// Words, as bytes.\npub fn put_words"),
+        ],
+        mentions: "lib.rt: line",
+    },
     // ---- theorems and the page
     Weakening {
         label: "a file of theorems that isn't proved any more",
@@ -281,6 +457,41 @@ const WEAKENINGS: &[Weakening] = &[
         edits: &[edit("", "docs/PROMISES.md", "| `judge(s)` |", "| |")],
         mentions: "the public function judge",
     },
+    Weakening {
+        label: "a must-fail edit taken off the page of promises",
+        edits: &[
+            edit("", "docs/PROMISES.md", "`judge_says_28`", "`judge`"),
+        ],
+        mentions: "judge_says_28.edit: docs/PROMISES.md",
+    },
+    Weakening {
+        label: "a must-fail edit that changes another thing",
+        edits: &[
+            edit("", "crates/number/must-fail/seven_bits_short.edit", "new: buf[i] = (128 + m % 127) as u8;", "new: garbage"),
+        ],
+        mentions: "new: garbage",
+    },
+    Weakening {
+        label: "a must-fail edit that nothing speaks of",
+        edits: &[
+            edit("", "crates/number/must-fail/unheard_of.edit", "", "# why\nfile: src/lib.rt\nold: a\nnew: b\n"),
+        ],
+        mentions: "unheard_of.edit: docs/PROMISES.md",
+    },
+    Weakening {
+        label: "a file that a page names and that isn't there",
+        edits: &[
+            edit("", "docs/WHY-IT-HOLDS.md", "`atomic` (crates/protocol/specs/laws/Atomic.antt)", "`atomic` (crates/protocol/specs/laws/Atom.antt)"),
+        ],
+        mentions: "there is no crates/protocol/specs/laws/Atom.antt",
+    },
+    Weakening {
+        label: "a theorem that isn't in the file that a page names",
+        edits: &[
+            edit("", "docs/WHY-IT-HOLDS.md", "`atomic` (crates/protocol/specs/laws/Atomic.antt)", "`atom` (crates/protocol/specs/laws/Atomic.antt)"),
+        ],
+        mentions: "Atomic.antt doesn't declare atom",
+    },
 ];
 
 /// A copy of what is looked at, removed when it is dropped.
@@ -303,6 +514,7 @@ impl Copy {
         }
         let mut files: Vec<String> =
             ["crates.txt", "README.md", "docs/PROMISES.md", "docs/STATEMENTS.txt"].map(String::from).to_vec();
+        files.extend(paths::PAGES.map(String::from));
         for ending in [".antt", ".rt", ".edit"] {
             files.extend(files_below(root, "crates", ending)?.into_iter().map(|(file, _)| file));
         }
@@ -337,13 +549,23 @@ impl Copy {
     fn weakened(&self, weakening: &Weakening) -> io::Result<Option<Vec<String>>> {
         let mut before = Vec::new();
         for edit in weakening.edits {
+            if edit.old.is_empty() {
+                let path = self.root.join(edit.file);
+                fs::create_dir_all(path.parent().unwrap_or(&self.root))?;
+                fs::write(&path, edit.new)?;
+                before.push((path, None));
+                continue;
+            }
             let Some((path, text)) = self.find(edit)? else { break };
             fs::write(&path, text.replace(edit.old, edit.new))?;
-            before.push((path, text));
+            before.push((path, Some(text)));
         }
         let faults = if before.len() == weakening.edits.len() { Some(self.faults()?) } else { None };
         for (path, text) in before.iter().rev() {
-            fs::write(path, text)?;
+            match text {
+                Some(text) => fs::write(path, text)?,
+                None => fs::remove_file(path)?,
+            }
         }
         Ok(faults)
     }
