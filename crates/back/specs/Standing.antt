@@ -23,7 +23,7 @@ use Rattle.method.specs.declared.Goal.{Goal}
 use Rattle.method.specs.declared.Goal.the-variants.{Read, Write}
 use Rattle.method.specs.declared.Work.{Work}
 use Rattle.method.specs.declared.Work.the-variants.{Idle, Asking, Keeping}
-use Rattle.rack.specs.declared.Sizes.{Sizes}
+use Rattle.rack.specs.declared.Settings.{Settings}
 use Rattle.rack.specs.declared.Rack.{Rack}
 use Rattle.stamps.specs.Stamp.{freshPair}
 use Rattle.rack.specs.Places.{partyAt, heldAt, recordOf}
@@ -57,14 +57,14 @@ openIn (Keeping cell goal set held) = openFor goal
 -- ---- entries
 
 -- the rack has the entry's client and cell, and its value is one of 32 bits
-abbrev pub Within : Sizes → Entry → Type 0
+abbrev pub Within : Settings → Entry → Type 0
 Within z (ReadAsked client cell) = (client .0 < z .clients) × (cell .0 < z .cells)
 Within z (WriteAsked client cell v) = (client .0 < z .clients) × (cell .0 < z .cells) × SFits w32 v
 Within z (Told client v) = (client .0 < z .clients) × SFits w32 v
 Within z (Done client) = client .0 < z .clients
 
 -- every entry of the list is one of this rack
-abbrev pub AllWithin : Sizes → List Entry → Type 0
+abbrev pub AllWithin : Settings → List Entry → Type 0
 AllWithin z [] = Unit {0}
 AllWithin z (e ∷ es) = Within z e × AllWithin z es
 
@@ -113,6 +113,6 @@ pub record Agrees (r : Rack) : Type 0 where
   pub count : length (recordOf r) ≡ r .count
   pub most : r .count ≤ entryLimit
   pub small : FitsWords r
-  pub within : AllWithin (r .sizes) (recordOf r)
+  pub within : AllWithin (r .settings) (recordOf r)
   pub follows : Follows fresh (recordOf r)
-  pub stands : (i : ℕ) → i < r .sizes .clients → has (standing (recordOf r)) i ≡ openIn (partyAt r i .work)
+  pub stands : (i : ℕ) → i < r .settings .clients → has (standing (recordOf r)) i ≡ openIn (partyAt r i .work)

@@ -16,7 +16,7 @@ use method::InSlot;
 use method::Note;
 use method::Party;
 use rack::Rack;
-use rack::Sizes;
+use rack::Settings;
 use rack::owed::owed_by_all;
 use record::Cell;
 use record::Client;
@@ -124,11 +124,11 @@ pub fn decode(kind: u32, a: u32, b: u32, value: u32) -> Event
 }
 
 // Whether the rack has this client and this cell.
-fn both_in(sizes: Sizes, client: Client, cell: Cell) -> bool
-    ensures { λ r. ⌜ r ≡ (ltb (client .0) (sizes .clients) && ltb (cell .0) (sizes .cells)) ⌝ }
+fn both_in(settings: Settings, client: Client, cell: Cell) -> bool
+    ensures { λ r. ⌜ r ≡ (ltb (client .0) (settings .clients) && ltb (cell .0) (settings .cells)) ⌝ }
 {
-    if client.0 < sizes.clients {
-        return cell.0 < sizes.cells;
+    if client.0 < settings.clients {
+        return cell.0 < settings.cells;
     }
     false
 }
@@ -139,32 +139,32 @@ fn slot_in(slot: usize) -> bool
     slot < Rack::SLOTS
 }
 
-fn has_client(sizes: Sizes, client: Client) -> bool
-    ensures { λ r. ⌜ r ≡ ltb (client .0) (sizes .clients) ⌝ }
+fn has_client(settings: Settings, client: Client) -> bool
+    ensures { λ r. ⌜ r ≡ ltb (client .0) (settings .clients) ⌝ }
 {
-    client.0 < sizes.clients
+    client.0 < settings.clients
 }
 
-fn has_replica(sizes: Sizes, replica: Replica) -> bool
-    ensures { λ r. ⌜ r ≡ ltb (replica .0) (sizes .replicas) ⌝ }
+fn has_replica(settings: Settings, replica: Replica) -> bool
+    ensures { λ r. ⌜ r ≡ ltb (replica .0) (settings .replicas) ⌝ }
 {
-    replica.0 < sizes.replicas
+    replica.0 < settings.replicas
 }
 
 // Whether an event's numbers are in this rack.
-pub fn in_rack(sizes: Sizes, event: Event) -> bool
-    ensures { λ r. ⌜ r ≡ inRack sizes event ⌝ }
+pub fn in_rack(settings: Settings, event: Event) -> bool
+    ensures { λ r. ⌜ r ≡ inRack settings event ⌝ }
 {
     match event {
-        Event::StartRead(client, cell) => both_in(sizes, client, cell),
-        Event::StartWrite(client, cell, _) => both_in(sizes, client, cell),
+        Event::StartRead(client, cell) => both_in(settings, client, cell),
+        Event::StartWrite(client, cell, _) => both_in(settings, client, cell),
         Event::Deliver(slot) => slot_in(slot),
         Event::Lose(slot) => slot_in(slot),
         Event::Copy(slot) => slot_in(slot),
-        Event::Resend(client) => has_client(sizes, client),
-        Event::Stop(client) => has_client(sizes, client),
-        Event::Off(replica) => has_replica(sizes, replica),
-        Event::On(replica) => has_replica(sizes, replica),
+        Event::Resend(client) => has_client(settings, client),
+        Event::Stop(client) => has_client(settings, client),
+        Event::Off(replica) => has_replica(settings, replica),
+        Event::On(replica) => has_replica(settings, replica),
         Event::Unknown => false,
     }
 }

@@ -20,7 +20,7 @@ use Rattle.method.specs.declared.Work.{Work}
 use Rattle.method.specs.declared.Work.the-variants.{Idle, Asking, Keeping}
 use Rattle.method.specs.declared.Party.{Party}
 use Rattle.rack.specs.declared.Line.{Line}
-use Rattle.rack.specs.declared.Sizes.{Sizes}
+use Rattle.rack.specs.declared.Settings.{Settings}
 use Rattle.rack.specs.declared.Rack.{Rack}
 use Rattle.stamps.specs.Stamp.{freshPair}
 use Rattle.rack.specs.Places.{slotLimit, pairLimit, blank}
@@ -138,7 +138,7 @@ unfoldable pub powerOf : ℕ → ℕ
 powerOf w = cond (ltb w 32768) w 0
 
 -- the three sizes
-unfoldable pub sizesIn : List ℕ → Sizes
+unfoldable pub sizesIn : List ℕ → Settings
 sizesIn ws =
     record {
       replicas = cond (ltb (word ws 3) 32768) (byteOf (word ws 0)) 255;
@@ -150,7 +150,7 @@ sizesIn ws =
 unfoldable pub rackOf : List ℕ → Rack
 rackOf ws =
     record {
-      sizes = sizesIn ws;
+      settings = sizesIn ws;
       power = powerOf (word ws 3);
       count = countIn ws;
       parties = firsts clientLimit (λ i. partyIn ws (partyPlace i));

@@ -22,5 +22,5 @@ pub record State (ws : List ℕ) : Type 0 where
   pub power : word ws 3 < 32768
   pub count : word ws 4 ≤ entryLimit
   pub entries : (i : ℕ) → i < word ws 4 → lineKnown ws (entryPlace i) ≡ true
-  pub parties : (i : ℕ) → i < rackOf ws .sizes .clients → partyKnownAt ws (partyPlace i) ≡ true
+  pub parties : (i : ℕ) → i < rackOf ws .settings .clients → partyKnownAt ws (partyPlace i) ≡ true
   pub slots : (i : ℕ) → i < slotLimit → slotKnownAt ws (slotPlace i) ≡ true

@@ -91,11 +91,11 @@ putFirsts (suc n) place f ws = sets (putFirsts n place f ws) (place n) (f n)
 
 -- the first five words are written
 unfoldable pub headOf : Rack → List ℕ → List ℕ
-headOf r ws = sets ws 0 (r .sizes .replicas ∷ r .sizes .clients ∷ r .sizes .cells ∷ r .power ∷ r .count ∷ [])
+headOf r ws = sets ws 0 (r .settings .replicas ∷ r .settings .clients ∷ r .settings .cells ∷ r .power ∷ r .count ∷ [])
 
 -- then the clients that the rack has
 unfoldable pub partiesPut : Rack → List ℕ → List ℕ
-partiesPut r ws = putFirsts (r .sizes .clients) partyPlace (λ i. partyWords (partyAt r i)) ws
+partiesPut r ws = putFirsts (r .settings .clients) partyPlace (λ i. partyWords (partyAt r i)) ws
 
 -- a pair of a cell that the rack hasn't got is not written
 unfoldable pub pairWritten : ℕ → ℕ → Pair → List ℕ
@@ -103,7 +103,7 @@ pairWritten cells i p = cond (ltb (i % cellLimit) cells) (pairWords p) []
 
 -- then the pairs of its replicas and cells
 unfoldable pub pairsPut : Rack → List ℕ → List ℕ
-pairsPut r ws = putFirsts (cellLimit * r .sizes .replicas) pairPlace (λ i. pairWritten (r .sizes .cells) i (getD (r .pairs) i freshPair)) ws
+pairsPut r ws = putFirsts (cellLimit * r .settings .replicas) pairPlace (λ i. pairWritten (r .settings .cells) i (getD (r .pairs) i freshPair)) ws
 
 -- then the slots of its wire
 unfoldable pub wirePut : Rack → List ℕ → List ℕ

@@ -12,7 +12,7 @@ use Rattle.rack.specs.Run.{ranOf}
 unfoldable pub plainRack : Rack → Rack
 plainRack r =
     record {
-      sizes = r .sizes;
+      settings = r .settings;
       power = r .power;
       count = r .count;
       parties = map plainParty (r .parties);
@@ -23,7 +23,7 @@ plainRack r =
 
 -- each client of the rack that was told nothing yet holds nothing
 abbrev pub Plain : Rack → Type 0
-Plain r = (i : ℕ) → i < r .sizes .clients → plainParty (partyAt r i) ≡ partyAt r i
+Plain r = (i : ℕ) → i < r .settings .clients → plainParty (partyAt r i) ≡ partyAt r i
 
 -- what a run gives, and what clients hold that were told something
 abbrev pub plainRan : Ran → Ran

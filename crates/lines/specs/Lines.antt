@@ -17,7 +17,7 @@ use Rattle.method.specs.declared.Goal.the-variants.{Read, Write}
 use Rattle.method.specs.declared.Work.{Work}
 use Rattle.method.specs.declared.Work.the-variants.{Idle, Asking, Keeping}
 use Rattle.method.specs.declared.Party.{Party}
-use Rattle.rack.specs.declared.Sizes.{Sizes}
+use Rattle.rack.specs.declared.Settings.{Settings}
 use Rattle.rack.specs.declared.Rack.{Rack}
 use Rattle.rack.specs.declared.Ran.{Ran}
 use Rattle.rack.specs.Places.{slotLimit, partyAt, pairAt, heldAt, recordOf}
@@ -116,7 +116,7 @@ powerText false = offWord
 
 -- replica k's pair for each cell, a space before each
 abbrev pub pairsText : Rack → ℕ → List ℕ
-pairsText r k = eachBelow (r .sizes .cells) (λ x. space ++ pairText (pairAt r k x))
+pairsText r k = eachBelow (r .settings .cells) (λ x. space ++ pairText (pairAt r k x))
 
 -- replica k: on or off, and its pairs
 abbrev pub replicaLine : Rack → ℕ → List ℕ
@@ -125,7 +125,7 @@ replicaLine r k = field replicaStart k ++ (powerText (hasReplica (r .power) k) +
 -- ---- the rack, and a run
 
 -- the rack's sizes: replicas, clients, cells
-abbrev pub sizesLine : Sizes → List ℕ
+abbrev pub sizesLine : Settings → List ℕ
 sizesLine z = field rackStart (z .replicas) ++ (field space (z .clients) ++ (field space (z .cells) ++ lineFeed))
 
 -- the record's bytes, in two hex digits each
@@ -135,9 +135,9 @@ recordLine r = recordStart ++ (hexText (bytesOf (recordOf r)) ++ lineFeed)
 -- slots by rising number
 abbrev pub rackText : Rack → List ℕ
 rackText r =
-    sizesLine (r .sizes)
-    ++ (eachBelow (r .sizes .replicas) (λ k. replicaLine r k)
-    ++ (eachBelow (r .sizes .clients) (λ i. clientLine i (partyAt r i))
+    sizesLine (r .settings)
+    ++ (eachBelow (r .settings .replicas) (λ k. replicaLine r k)
+    ++ (eachBelow (r .settings .clients) (λ i. clientLine i (partyAt r i))
     ++ (eachBelow slotLimit (λ i. slotLine i (heldAt r i))
     ++ recordLine r)))
 

@@ -1,7 +1,4 @@
 -- What a client holds after a tell, and the entries of an operation. The paper: "What each event does".
-use Prim.Native.Nat.{ℕ}
-use mathlib.Core.Bool.{cond}
-use lib.Dec.{eqb}
 use Rattle.record.specs.declared.Client.{Client}
 use Rattle.record.specs.declared.Cell.{Cell}
 use Rattle.record.specs.declared.Entry.{Entry}
@@ -10,10 +7,13 @@ use Rattle.stamps.specs.declared.Pair.{Pair}
 use Rattle.stamps.specs.Stamp.{raised}
 use Rattle.method.specs.declared.Goal.{Goal}
 use Rattle.method.specs.declared.Goal.the-variants.{Read, Write}
+use Rattle.method.specs.declared.Holding.{Holding}
+use Rattle.method.specs.declared.Holding.the-variants.{NoPair, Holds}
 
--- the first tell of a phase (the set was empty) is held whole; a later one replaces it only with a greater stamp
-unfoldable pub holds : ℕ → Pair → Pair → Pair
-holds set held q = cond (eqb set 0) q (raised held q)
+-- the first tell of a phase is held whole; a later one replaces it only with a greater stamp
+unfoldable pub holds : Holding → Pair → Pair
+holds NoPair told = told
+holds (Holds held) told = raised held told
 
 -- the entry of a start: read asked, or write asked with its value
 abbrev pub firstEntry : Goal → Client → Cell → Entry

@@ -1,29 +1,35 @@
--- The method: what an event that is done may do, case by case. It speaks of what the event saw and of its plan alone, and says all that the argument
--- of crate protocol needs of them. The paper: "What each event does".
+-- The method: what an event that is done leaves of its client, its pair, the power, its slot and the record, and what it sends to whom; kind by kind, with
+-- what then was so before. All that holds of plans follows from this. The paper: "What each event does".
 use Prim.Native.Nat.{ℕ, _+_}
 use mathlib.Core.Path.{_≡_}
 use mathlib.Core.Logic.{_≢_}
 use mathlib.Core.Bool.{true, false}
 use lib.IntN.{ℤ}
 use Rattle.record.specs.declared.Client.{Client}
+use Rattle.record.specs.declared.Replica.{Replica}
 use Rattle.record.specs.declared.Cell.{Cell}
-use Rattle.quorum.specs.Sets.{hasReplica, withReplica, asksEnough, keepsEnough}
+use Rattle.quorum.specs.Sets.{hasReplica, withReplica, withoutReplica, asksEnough, keepsEnough, everyReplica, others}
 use Rattle.stamps.specs.declared.Stamp.{Stamp}
 use Rattle.stamps.specs.declared.Pair.{Pair}
-use Rattle.stamps.specs.Stamp.{raised, freshPair}
+use Rattle.stamps.specs.Stamp.{raised}
 use Rattle.method.specs.Holding.{holds, firstEntry, lastEntry}
-use Rattle.method.specs.declared.Body.{Body}
 use Rattle.method.specs.declared.Body.the-variants.{Ask, Tell, Keep, Kept}
 use Rattle.method.specs.declared.Message.{Message}
 use Rattle.method.specs.declared.InSlot.{InSlot}
-use Rattle.method.specs.declared.InSlot.the-variants.{Full}
+use Rattle.method.specs.declared.InSlot.the-variants.{Empty, Full}
 use Rattle.method.specs.declared.Goal.{Goal}
 use Rattle.method.specs.declared.Goal.the-variants.{Read, Write}
-use Rattle.method.specs.declared.Work.{Work}
-use Rattle.method.specs.declared.Work.the-variants.{Idle, Asking, Keeping}
+use Rattle.method.specs.declared.Holding.{Holding}
+use Rattle.method.specs.declared.Phase.the-variants.{Asking, Keeping}
+use Rattle.method.specs.declared.Operation.{Operation}
+use Rattle.method.specs.declared.Work.the-variants.{Idle, Open}
 use Rattle.method.specs.declared.Sight.{Sight}
+use Rattle.method.specs.declared.Event.{Event}
+use Rattle.method.specs.declared.Event.the-variants.{StartRead, StartWrite, Deliver, Lose, Copy, Resend, Stop, Off, On, Unknown}
 use Rattle.method.specs.declared.Note.the-variants.{Nothing, Asked, Ended}
 use Rattle.method.specs.declared.Plan.{Plan}
+use Rattle.method.specs.Plan.{toReplicas, noMessage, activeParty, planned, usedUp, answered, powered, asked, asking, keeping, request}
+use Rattle.method.specs.Refusals.{lastOp}
 
 -- ---- pairs
 
@@ -42,161 +48,154 @@ abbrev pub Chosen : Goal → ℕ → Pair → Pair → Type 0
 Chosen Read client held chosen = chosen ≡ held
 Chosen (Write v) client held chosen = Written client v held chosen
 
--- ---- messages
+-- ---- start read, start write
 
--- the slot held message m with body b, and it is client c's
-pub record Got (c : ℕ) (held : InSlot) (m : Message) (b : Body) : Type 0 where
-  pub here : held ≡ Full m
-  pub client : m .client .0 ≡ c
-  pub body : m .body ≡ b
-
--- what the plan sends, whoever it goes to: of client c, about cell x, for operation number o, with body b
-pub record Says (p : Plan) (c x o : ℕ) (b : Body) : Type 0 where
-  pub client : p .message .client .0 ≡ c
-  pub cell : p .message .cell .0 ≡ x
-  pub op : p .message .op ≡ o
-  pub body : p .message .body ≡ b
-
--- the present request: an ask, or a keep with the pair held
-abbrev pub Request : Work → ℕ → Body → Type 0
-Request Idle cell body = ⊥
-Request (Asking x goal set held) cell body = (cell ≡ x .0) × (body ≡ Ask)
-Request (Keeping x goal set held) cell body = (cell ≡ x .0) × (body ≡ Keep held)
-
--- what an event sends that changes nothing: nothing, the slot's message once more, or the present request
-pub data Repeats (s : Sight) (client : ℕ) (held : InSlot) (p : Plan) : Type 0 where
-  none : p .to ≡ 0 → Repeats s client held p
-  copy : (m : Message) → Got client held m (m .body) → p .message ≡ m → p .to ≡ withReplica 0 (m .replica .0) → Repeats s client held p
-  again : (cell : ℕ) (body : Body) → Request (s .party .work) cell body → Says p client cell (s .party .op) body → Repeats s client held p
-
--- ---- what stays
-
--- the client is at what it was at, and the record is as it was
-pub record Still (s : Sight) (p : Plan) : Type 0 where
-  pub op : p .party .op ≡ s .party .op
-  pub work : p .party .work ≡ s .party .work
-  pub note : p .note ≡ Nothing
-
--- ---- the cases
-
--- the client's work, the pair and the record stay; the power may change, a client may stop, the slot become empty, and a message go out once more
-pub record Rests (s : Sight) (client : ℕ) (held : InSlot) (p : Plan) : Type 0 where
-  pub still : Still s p
-  pub pair : p .pair ≡ s .pair
-  pub sends : Repeats s client held p
-
--- a client that was idle asks: its operation number rises by one, the record gets an entry, what is sent is an ask
-pub record Starts (s : Sight) (client : ℕ) (p : Plan) : Type 0 where
-  pub cell : Cell
-  pub goal : Goal
+-- a client that is idle asks: its operation number rises by one, the record gets an entry, an ask goes to every replica
+pub record Starts (s : Sight) (client : Client) (cell : Cell) (goal : Goal) (p : Plan) : Type 0 where
+  pub acts : s .party .stopped ≡ false
   pub before : s .party .work ≡ Idle
-  pub op : p .party .op ≡ s .party .op + 1
-  pub work : p .party .work ≡ Asking cell goal 0 freshPair
-  pub pair : p .pair ≡ s .pair
-  pub note : p .note ≡ Asked (firstEntry goal (record { 0 = client }) cell)
-  pub says : Says p client (cell .0) (s .party .op + 1) Ask
+  pub next : s .party .op ≢ lastOp
+  pub plan : p
+    ≡ planned s (activeParty (s .party .op + 1) (Open (asked cell goal))) false (Asked (firstEntry goal client cell))
+    (toReplicas client cell (s .party .op + 1) Ask) (everyReplica (s .quorums .replicas))
+
+-- ---- deliver: to a replica that is on
 
 -- a replica answers an ask: it tells its pair
-pub record Tells (s : Sight) (client : ℕ) (held : InSlot) (p : Plan) : Type 0 where
-  pub message : Message
-  pub got : Got client held message Ask
-  pub still : Still s p
-  pub pair : p .pair ≡ s .pair
-  pub says : Says p client (message .cell .0) (message .op) (Tell (s .pair))
-  pub to : p .to ≡ withReplica 0 (message .replica .0)
+pub record Tells (s : Sight) (m : Message) (p : Plan) : Type 0 where
+  pub body : m .body ≡ Ask
+  pub on : hasReplica (s .power) (m .replica .0) ≡ true
+  pub plan : p ≡ answered s (s .pair) m (Tell (s .pair))
 
 -- a replica is given a keep: its pair is raised, and it answers kept either way
-pub record Takes (s : Sight) (client : ℕ) (held : InSlot) (p : Plan) : Type 0 where
-  pub message : Message
+pub record Takes (s : Sight) (m : Message) (p : Plan) : Type 0 where
   pub given : Pair
-  pub got : Got client held message (Keep given)
-  pub still : Still s p
-  pub pair : p .pair ≡ raised (s .pair) given
-  pub says : Says p client (message .cell .0) (message .op) Kept
-  pub to : p .to ≡ withReplica 0 (message .replica .0)
+  pub body : m .body ≡ Keep given
+  pub on : hasReplica (s .power) (m .replica .0) ≡ true
+  pub plan : p ≡ answered s (raised (s .pair) given) m Kept
 
--- a tell that counts: it is for the present operation, in the ask phase, of a replica not yet in the set (that the client isn't stopped isn't needed here)
-pub record Heard (s : Sight) (client : ℕ) (held : InSlot) : Type 0 where
-  pub message : Message
+-- ---- deliver: to a client
+
+-- a tell that counts: the client isn't stopped, it is for the present operation, in the ask phase, of a replica not yet in the set
+pub record Heard (s : Sight) (m : Message) : Type 0 where
   pub told : Pair
-  pub got : Got client held message (Tell told)
-  pub op : s .party .op ≡ message .op
-  pub cell : Cell
-  pub goal : Goal
-  pub set : ℕ
-  pub pair : Pair
-  pub before : s .party .work ≡ Asking cell goal set pair
-  pub new : hasReplica set (message .replica .0) ≡ false
-  pub after : Pair
-  pub heard : after ≡ holds set pair told
+  pub body : m .body ≡ Tell told
+  pub acts : s .party .stopped ≡ false
+  pub op : s .party .op ≡ m .op
+  pub operation : Operation
+  pub before : s .party .work ≡ Open operation
+  pub held : Holding
+  pub phase : operation .phase ≡ Asking held
+  pub new : hasReplica (operation .set) (m .replica .0) ≡ false
 
 -- the set with the replica that told
-abbrev pub heardSet : {s : Sight} {client : ℕ} {held : InSlot} → Heard s client held → ℕ
-heardSet h = withReplica (h .set) (h .message .replica .0)
+abbrev pub heardSet : {s : Sight} {m : Message} → Heard s m → ℕ
+heardSet {s} {m} h = withReplica (h .operation .set) (m .replica .0)
+
+-- the pair that is then held
+abbrev pub heardPair : {s : Sight} {m : Message} → Heard s m → Pair
+heardPair h = holds (h .held) (h .told)
 
 -- the ask phase goes on
-pub record Hears (s : Sight) (client : ℕ) (held : InSlot) (p : Plan) : Type 0 where
-  pub heard : Heard s client held
-  pub op : p .party .op ≡ s .party .op
-  pub work : p .party .work ≡ Asking (heard .cell) (heard .goal) (heardSet heard) (heard .after)
-  pub pair : p .pair ≡ s .pair
-  pub note : p .note ≡ Nothing
-  pub to : p .to ≡ 0
+pub record Hears (s : Sight) (m : Message) (p : Plan) : Type 0 where
+  pub heard : Heard s m
+  pub few : asksEnough (s .quorums) (heardSet heard) ≡ false
+  pub plan : p ≡ planned s (activeParty (s .party .op) (Open (asking (heard .operation) (heardSet heard) (heardPair heard)))) true Nothing m 0
 
--- the ask phase ends with enough: the set is emptied, what is sent is a keep of the pair that is then held
-pub record Chooses (s : Sight) (client : ℕ) (held : InSlot) (p : Plan) : Type 0 where
-  pub heard : Heard s client held
-  pub enough : asksEnough (s .replicas) (heardSet heard) ≡ true
+-- the ask phase ends with enough: the set is emptied, and a keep of the pair that is then held goes to every replica
+pub record Chooses (s : Sight) (m : Message) (p : Plan) : Type 0 where
+  pub heard : Heard s m
+  pub enough : asksEnough (s .quorums) (heardSet heard) ≡ true
   pub chosen : Pair
-  pub choice : Chosen (heard .goal) client (heard .after) chosen
-  pub op : p .party .op ≡ s .party .op
-  pub work : p .party .work ≡ Keeping (heard .cell) (heard .goal) 0 chosen
-  pub pair : p .pair ≡ s .pair
-  pub note : p .note ≡ Nothing
-  pub says : Says p client (heard .cell .0) (s .party .op) (Keep chosen)
+  pub choice : Chosen (heard .operation .goal) (m .client .0) (heardPair heard) chosen
+  pub plan : p
+    ≡ planned s (activeParty (s .party .op) (Open (keeping (heard .operation) 0 chosen))) true Nothing
+    (toReplicas (m .client) (heard .operation .cell) (s .party .op) (Keep chosen)) (everyReplica (s .quorums .replicas))
 
--- a kept that counts: it is for the present operation, in the keep phase, of a replica not yet in the set (that the client isn't stopped isn't needed here)
-pub record Counted (s : Sight) (client : ℕ) (held : InSlot) : Type 0 where
-  pub message : Message
-  pub got : Got client held message Kept
-  pub op : s .party .op ≡ message .op
-  pub cell : Cell
-  pub goal : Goal
-  pub set : ℕ
-  pub pair : Pair
-  pub before : s .party .work ≡ Keeping cell goal set pair
-  pub new : hasReplica set (message .replica .0) ≡ false
+-- a kept that counts: the client isn't stopped, it is for the present operation, in the keep phase, of a replica not yet in the set
+pub record Counted (s : Sight) (m : Message) : Type 0 where
+  pub body : m .body ≡ Kept
+  pub acts : s .party .stopped ≡ false
+  pub op : s .party .op ≡ m .op
+  pub operation : Operation
+  pub before : s .party .work ≡ Open operation
+  pub held : Pair
+  pub phase : operation .phase ≡ Keeping held
+  pub new : hasReplica (operation .set) (m .replica .0) ≡ false
 
 -- the set with the replica that kept
-abbrev pub countedSet : {s : Sight} {client : ℕ} {held : InSlot} → Counted s client held → ℕ
-countedSet h = withReplica (h .set) (h .message .replica .0)
+abbrev pub countedSet : {s : Sight} {m : Message} → Counted s m → ℕ
+countedSet {s} {m} h = withReplica (h .operation .set) (m .replica .0)
 
 -- the keep phase goes on
-pub record Counts (s : Sight) (client : ℕ) (held : InSlot) (p : Plan) : Type 0 where
-  pub counted : Counted s client held
-  pub op : p .party .op ≡ s .party .op
-  pub work : p .party .work ≡ Keeping (counted .cell) (counted .goal) (countedSet counted) (counted .pair)
-  pub pair : p .pair ≡ s .pair
-  pub note : p .note ≡ Nothing
-  pub to : p .to ≡ 0
+pub record Counts (s : Sight) (m : Message) (p : Plan) : Type 0 where
+  pub counted : Counted s m
+  pub few : keepsEnough (s .quorums) (countedSet counted) ≡ false
+  pub plan : p ≡ planned s (activeParty (s .party .op) (Open (keeping (counted .operation) (countedSet counted) (counted .held)))) true Nothing m 0
 
 -- the operation ends, a read as well as a write, with enough that kept: the record gets its entry, the client is idle
-pub record Ends (s : Sight) (client : ℕ) (held : InSlot) (p : Plan) : Type 0 where
-  pub counted : Counted s client held
-  pub enough : keepsEnough (s .replicas) (countedSet counted) ≡ true
-  pub op : p .party .op ≡ s .party .op
-  pub work : p .party .work ≡ Idle
-  pub pair : p .pair ≡ s .pair
-  pub note : p .note ≡ Ended (lastEntry (counted .goal) (record { 0 = client }) (counted .pair))
-  pub to : p .to ≡ 0
+pub record Ends (s : Sight) (m : Message) (p : Plan) : Type 0 where
+  pub counted : Counted s m
+  pub enough : keepsEnough (s .quorums) (countedSet counted) ≡ true
+  pub plan : p
+    ≡ planned s (activeParty (s .party .op) Idle) true (Ended (lastEntry (counted .operation .goal) (m .client) (counted .held))) m 0
 
--- What an event does that saw s and the slot, and is about this client.
-pub data Does (s : Sight) (client : ℕ) (held : InSlot) (p : Plan) : Type 0 where
-  rests : Rests s client held p → Does s client held p
-  starts : Starts s client p → Does s client held p
-  tells : Tells s client held p → Does s client held p
-  takes : Takes s client held p → Does s client held p
-  hears : Hears s client held p → Does s client held p
-  chooses : Chooses s client held p → Does s client held p
-  counts : Counts s client held p → Does s client held p
-  ends : Ends s client held p → Does s client held p
+-- what delivering the message m may do; a tell or a kept that doesn't count is used up
+pub data Delivers (s : Sight) (m : Message) (p : Plan) : Type 0 where
+  tells : Tells s m p → Delivers s m p
+  takes : Takes s m p → Delivers s m p
+  hears : Hears s m p → Delivers s m p
+  chooses : Chooses s m p → Delivers s m p
+  counts : Counts s m p → Delivers s m p
+  ends : Ends s m p → Delivers s m p
+  spends : p ≡ usedUp s m → Delivers s m p
+
+-- ---- the other events
+
+-- the same message also in the lowest free slot
+abbrev pub Copies : Sight → Message → Plan → Type 0
+Copies s m p = p ≡ planned s (s .party) false Nothing m (withReplica 0 (m .replica .0))
+
+-- the present request goes again to each replica not in the set
+pub record Resends (s : Sight) (client : Client) (p : Plan) : Type 0 where
+  pub acts : s .party .stopped ≡ false
+  pub operation : Operation
+  pub before : s .party .work ≡ Open operation
+  pub plan : p
+    ≡ planned s (s .party) false Nothing (toReplicas client (operation .cell) (s .party .op) (request (operation .phase)))
+    (others (s .quorums .replicas) (operation .set))
+
+-- the client never acts again; its operation stays open
+pub record Stops (s : Sight) (p : Plan) : Type 0 where
+  pub acts : s .party .stopped ≡ false
+  pub plan : p ≡ planned s (record { stopped = true; op = s .party .op; work = s .party .work }) false Nothing noMessage 0
+
+-- a replica that is on is switched off
+pub record SwitchesOff (s : Sight) (replica : Replica) (p : Plan) : Type 0 where
+  pub on : hasReplica (s .power) (replica .0) ≡ true
+  pub plan : p ≡ powered s (withoutReplica (s .power) (replica .0))
+
+-- a replica that is off is switched on
+pub record SwitchesOn (s : Sight) (replica : Replica) (p : Plan) : Type 0 where
+  pub off : hasReplica (s .power) (replica .0) ≡ false
+  pub plan : p ≡ powered s (withReplica (s .power) (replica .0))
+
+-- ---- every event
+
+-- of the message that the slot holds
+abbrev pub OfSlot : (Message → Type 0) → InSlot → Type 0
+OfSlot P Empty = ⊥
+OfSlot P (Full m) = P m
+
+-- what an event does that saw s and what its slot held
+abbrev pub Does : Sight → InSlot → Event → Plan → Type 0
+Does s held (StartRead client cell) p = Starts s client cell Read p
+Does s held (StartWrite client cell v) p = Starts s client cell (Write v) p
+Does s held (Deliver slot) p = OfSlot (λ m. Delivers s m p) held
+Does s held (Lose slot) p = OfSlot (λ m. p ≡ usedUp s m) held
+Does s held (Copy slot) p = OfSlot (λ m. Copies s m p) held
+Does s held (Resend client) p = Resends s client p
+Does s held (Stop client) p = Stops s p
+Does s held (Off replica) p = SwitchesOff s replica p
+Does s held (On replica) p = SwitchesOn s replica p
+Does s held Unknown p = ⊥

@@ -1,4 +1,5 @@
 // The kinds of thing that events and plans speak of. What each event does is defined over them in specs/, with the method as its law; no function is needed.
+use quorum::Quorums;
 use record::Cell;
 use record::Client;
 use record::Entry;
@@ -34,21 +35,30 @@ pub enum Goal {
     Write(i32),
 }
 
-// What a client is at. In the ask phase nothing is held while the set is empty, and `held` is then no part of the state.
+// What is held in the ask phase: nothing until somebody has told, and from then on the greatest pair told.
+pub enum Holding {
+    NoPair,
+    Holds(Pair),
+}
+
+// The phase of an open operation, with what its client holds in it. In the keep phase that is the pair to be kept.
+pub enum Phase {
+    Asking(Holding),
+    Keeping(Pair),
+}
+
+// An open operation: its cell, what it is for, its phase, and the set of replicas that have answered in this phase.
+pub struct Operation {
+    pub cell: Cell,
+    pub goal: Goal,
+    pub phase: Phase,
+    pub set: u16,
+}
+
+// What a client is at: nothing, or an open operation.
 pub enum Work {
     Idle,
-    Asking {
-        cell: Cell,
-        goal: Goal,
-        set: u16,
-        held: Pair,
-    },
-    Keeping {
-        cell: Cell,
-        goal: Goal,
-        set: u16,
-        held: Pair,
-    },
+    Open(Operation),
 }
 
 // A client of the rack: whether it is stopped, its operation number, and what it is at.
@@ -63,9 +73,9 @@ impl Party {
     pub const LAST_OP: u16 = u16::MAX;
 }
 
-// What an event looks at: how many replicas there are, the power, and the client and the pair that it is about.
+// What an event looks at: the quorums of the rack, the power, and the client and the pair that it is about.
 pub struct Sight {
-    pub replicas: u8,
+    pub quorums: Quorums,
     pub power: u16,
     pub party: Party,
     pub pair: Pair,

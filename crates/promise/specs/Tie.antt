@@ -125,15 +125,15 @@ pub record Long (r : Rack) : Type 0 where
 pub record Tie (r : Rack) (v : View) (name : ℕ → ℕ → ℕ) : Type 0 where
   pub long : Long r
   -- legal moves lead to the view
-  pub reached : Reached (settingOf (r .sizes .replicas)) v
+  pub reached : Reached (settingOf (r .settings .replicas)) v
   -- its time is the number of entries
   pub now : v .now ≡ r .count
   -- every client is at what its operation is at
-  pub clients : (c : ℕ) → c < r .sizes .clients → At (v .ops) c (name c (opOf r c)) (partyAt r c .work)
+  pub clients : (c : ℕ) → c < r .settings .clients → At (v .ops) c (name c (opOf r c)) (partyAt r c .work)
   -- every pair is the view's
-  pub pairs : (k x : ℕ) → k < r .sizes .replicas → x < r .sizes .cells → v .pair k x ≡ pairOf (pairAt r k x)
+  pub pairs : (k x : ℕ) → k < r .settings .replicas → x < r .settings .cells → v .pair k x ≡ pairOf (pairAt r k x)
   -- every message on the wire means something true
-  pub wire : (i : ℕ) → Holding (OnWire (settingOf (r .sizes .replicas)) v name (opOf r)) (heldAt r i)
+  pub wire : (i : ℕ) → Holding (OnWire (settingOf (r .settings .replicas)) v name (opOf r)) (heldAt r i)
   -- the record shows the operations
   pub book : Book (v .ops) (operations (recordOf r))
 

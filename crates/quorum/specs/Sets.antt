@@ -5,6 +5,7 @@ use mathlib.Core.List.{List, [], _∷_}
 use lib.Dec.{ltb, eqb}
 use lib.Bits.{bitAnd, bitOr}
 use lib.Count.{ones, trailingZeros}
+use Rattle.quorum.specs.declared.Quorums.{Quorums}
 
 -- how many replicas a set has bits for
 unfoldable pub setBits : ℕ
@@ -26,13 +27,13 @@ countOf set = ones set
 unfoldable pub majority : ℕ → ℕ → Bool
 majority n set = ltb n (2 * countOf set)
 
--- enough of n replicas told: an ask phase ends
-unfoldable pub asksEnough : ℕ → ℕ → Bool
-asksEnough n set = majority n set
+-- enough told: an ask phase ends
+unfoldable pub asksEnough : Quorums → ℕ → Bool
+asksEnough q set = majority (q .replicas) set
 
--- enough of n replicas kept: the operation ends
-unfoldable pub keepsEnough : ℕ → ℕ → Bool
-keepsEnough n set = majority n set
+-- enough kept: the operation ends
+unfoldable pub keepsEnough : Quorums → ℕ → Bool
+keepsEnough q set = majority (q .replicas) set
 
 -- every replica of n, as far as a set has bits
 unfoldable pub everyReplica : ℕ → ℕ

@@ -2,6 +2,7 @@
 use Prim.Native.Nat.{ℕ, _<_, _≤_}
 use mathlib.Core.Path.{_≡_}
 use mathlib.Core.Bool.{true, false}
+use Rattle.quorum.specs.declared.Quorums.{Quorums}
 use Rattle.quorum.specs.Sets.{hasReplica, countOf, majority}
 use mathlib.Core.List.{List, [], _∷_, List·Memᴰ}
 
@@ -21,3 +22,7 @@ Rising (k ∷ ks) = ((j : ℕ) → List·Memᴰ j ks → k < j) × Rising ks
 pub record Least (n k : ℕ) : Type 0 where
   pub enough : (s : ℕ) → k ≤ countOf s → majority n s ≡ true
   pub fewer : (s : ℕ) → countOf s < k → majority n s ≡ false
+
+-- four replicas
+abbrev pub four : Quorums
+four = record { replicas = 4 }

@@ -4,6 +4,11 @@ ghost use Prim.Native.Nat.{_≤_, _<_};
 ghost use Rattle.quorum.specs.Sets.{hasReplica, withReplica, countOf, asksEnough, keepsEnough, everyReplica, others, within, withoutReplica, majority, lowestOf, restOf};
 use record::Replica;
 
+// What a rack's quorums follow from: how many replicas it has. More than half of them are enough, in either phase.
+pub struct Quorums {
+    pub replicas: u8,
+}
+
 // How many replicas a set has bits for.
 pub const SET_BITS: u8 = 16;
 
@@ -61,18 +66,18 @@ fn most(n: u8, set: u16) -> bool
     wide(n) < 2 * count(set)
 }
 
-// Whether enough of n replicas have told.
-pub fn asks_enough(n: u8, set: u16) -> bool
-    ensures { λ r. ⌜ r ≡ asksEnough n set ⌝ }
+// Whether enough replicas have told.
+pub fn asks_enough(quorums: Quorums, set: u16) -> bool
+    ensures { λ r. ⌜ r ≡ asksEnough quorums set ⌝ }
 {
-    most(n, set)
+    most(quorums.replicas, set)
 }
 
-// Whether enough of n replicas have kept.
-pub fn keeps_enough(n: u8, set: u16) -> bool
-    ensures { λ r. ⌜ r ≡ keepsEnough n set ⌝ }
+// Whether enough replicas have kept.
+pub fn keeps_enough(quorums: Quorums, set: u16) -> bool
+    ensures { λ r. ⌜ r ≡ keepsEnough quorums set ⌝ }
 {
-    most(n, set)
+    most(quorums.replicas, set)
 }
 
 // Every replica of n.

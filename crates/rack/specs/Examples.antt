@@ -7,13 +7,13 @@ use Rattle.method.specs.declared.Goal.the-variants.{Read}
 use Rattle.method.specs.declared.Work.{Work}
 use Rattle.method.specs.declared.Work.the-variants.{Asking}
 use Rattle.method.specs.declared.Party.{Party}
-use Rattle.rack.specs.declared.Sizes.{Sizes}
+use Rattle.rack.specs.declared.Settings.{Settings}
 use Rattle.method.specs.Plan.{messageOf}
 use Rattle.stamps.specs.Examples.{pairOf}
 
 -- three replicas, two clients, one cell
-abbrev pub sizes : Sizes
-sizes = record { replicas = 3; clients = 2; cells = 1 }
+abbrev pub sizes : Settings
+settings = record { replicas = 3; clients = 2; cells = 1 }
 
 -- an ask of cell 0 by client 1, to a replica
 abbrev pub asks : ℕ → Message

@@ -14,7 +14,7 @@ use Rattle.method.specs.declared.InSlot.{InSlot}
 use Rattle.method.specs.declared.InSlot.the-variants.{Empty, Full}
 use Rattle.rack.specs.declared.Slot.{Slot}
 use Rattle.rack.specs.declared.Line.{Line}
-use Rattle.rack.specs.declared.Sizes.{Sizes}
+use Rattle.rack.specs.declared.Settings.{Settings}
 use Rattle.rack.specs.declared.Rack.{Rack}
 use Rattle.method.specs.declared.Event.{Event}
 use Rattle.method.specs.declared.Event.the-variants.{StartRead, StartWrite, Deliver, Lose, Copy, Resend, Stop, Off, On, Unknown}
@@ -29,14 +29,14 @@ use Rattle.stamps.specs.Stamp.{freshPair}
 use Rattle.method.specs.Plan.{messageOf, planOf}
 use Rattle.method.specs.About.{clientOf}
 use Rattle.rack.specs.Places.{slotLimit, pairLimit, empty, blank, idle, partyAt, pairPlace, heldAt, roomOf, sentOf}
-use Rattle.rack.specs.Sound.{sizesFit, owed, soundOf}
+use Rattle.rack.specs.Sound.{settingsFit, owed, soundOf}
 
 -- ---- the maker
 
 -- replicas on, every pair stamp (0, 0) with value 0, clients idle at operation number 0, wire and record empty
 unfoldable pub freshRack : ℕ → ℕ → ℕ → Rack
 freshRack replicas clients cells = record {
-  sizes = record { replicas = replicas; clients = clients; cells = cells };
+  settings = record { replicas = replicas; clients = clients; cells = cells };
   power = everyReplica replicas;
   count = 0;
   parties = replicate clientLimit idle;
@@ -48,7 +48,7 @@ freshRack replicas clients cells = record {
 -- 1: a size out of range, and beside it the fresh rack of sizes 1, 1, 1
 unfoldable pub madeOf : ℕ → ℕ → ℕ → Made
 madeOf replicas clients cells =
-    cond (sizesFit (record { replicas = replicas; clients = clients; cells = cells }))
+    cond (settingsFit (record { replicas = replicas; clients = clients; cells = cells }))
     (record { refusal = 0; rack = freshRack replicas clients cells })
     (record { refusal = 1; rack = freshRack 1 1 1 })
 
@@ -75,7 +75,7 @@ eventOf kind a b value =
 -- ---- what an event is about
 
 -- whether its numbers are in this rack
-unfoldable pub inRack : Sizes → Event → Bool
+unfoldable pub inRack : Settings → Event → Bool
 inRack z (StartRead client cell) = ltb (client .0) (z .clients) && ltb (cell .0) (z .cells)
 inRack z (StartWrite client cell v) = ltb (client .0) (z .clients) && ltb (cell .0) (z .cells)
 inRack z (Deliver slot) = ltb slot slotLimit
@@ -127,10 +127,10 @@ checked (Go p) taken room = noted (p .note) taken (cond (ltb (room + freed (p .c
 unfoldable pub decided : Rack → Event → Decision
 decided r e =
     let held = heldAt r (slotOf e) in
-    cond (inRack (r .sizes) e)
+    cond (inRack (r .settings) e)
     (checked
     (planOf (record {
-      replicas = r .sizes .replicas;
+      replicas = r .settings .replicas;
       power = r .power;
       party = partyAt r (clientOf e held);
       pair = getD (r .pairs) (placeIn held) freshPair;
@@ -167,12 +167,12 @@ unfoldable pub appliedOf : Rack → Event → Plan → Rack
 appliedOf r e p =
     let held = heldAt r (slotOf e) in
     record {
-      sizes = r .sizes;
+      settings = r .settings;
       power = p .power;
       count = r .count + entriesIn (p .note);
       parties = set (r .parties) (clientOf e held) (p .party);
       pairs = set (r .pairs) (placeIn held) (p .pair);
-      wire = sentOf (cleared (p .clear) (slotOf e) (r .wire)) (addressed (p .message) (membersOf (r .sizes .replicas) (p .to)));
+      wire = sentOf (cleared (p .clear) (slotOf e) (r .wire)) (addressed (p .message) (membersOf (r .settings .replicas) (p .to)));
       lines = recorded (p .note) (r .count) (r .lines);
     }
 

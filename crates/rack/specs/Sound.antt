@@ -18,7 +18,7 @@ use Rattle.method.specs.declared.InSlot.{InSlot}
 use Rattle.method.specs.declared.InSlot.the-variants.{Empty, Full}
 use Rattle.method.specs.declared.Work.{Work}
 use Rattle.method.specs.declared.Work.the-variants.{Idle, Asking, Keeping}
-use Rattle.rack.specs.declared.Sizes.{Sizes}
+use Rattle.rack.specs.declared.Settings.{Settings}
 use Rattle.rack.specs.declared.Rack.{Rack}
 
 -- 1 for an open operation, 0 for none
@@ -37,45 +37,45 @@ allBelow zero f = true
 allBelow (suc n) f = allBelow n f && f n
 
 -- 1 to 15 replicas, 1 to 8 clients and 1 to 16 cells
-unfoldable pub sizesFit : Sizes → Bool
-sizesFit z =
+unfoldable pub settingsFit : Settings → Bool
+settingsFit z =
     (leb 1 (z .replicas) && leb (z .replicas) replicaLimit) && ((leb 1 (z .clients) && leb (z .clients) clientLimit) && (leb 1 (z .cells) && leb (z .cells) cellLimit))
 
 -- a pair names a rank that the rack has
-unfoldable pub pairFits : Sizes → Pair → Bool
+unfoldable pub pairFits : Settings → Pair → Bool
 pairFits z p = ltb (p .stamp .rank) (z .clients)
 
 -- the pair of a tell or a keep names a rank that the rack has
-unfoldable pub bodyFits : Sizes → Body → Bool
+unfoldable pub bodyFits : Settings → Body → Bool
 bodyFits z Ask = true
 bodyFits z (Tell p) = pairFits z p
 bodyFits z (Keep p) = pairFits z p
 bodyFits z Kept = true
 
 -- a message names a client, a replica, a cell and a rank that the rack has
-unfoldable pub messageFits : Sizes → Message → Bool
+unfoldable pub messageFits : Settings → Message → Bool
 messageFits z m =
     (ltb (m .client .0) (z .clients) && ltb (m .replica .0) (z .replicas)) && (ltb (m .cell .0) (z .cells) && bodyFits z (m .body))
 
 -- a slot is empty, or its message names only what the rack has
-unfoldable pub heldFits : Sizes → InSlot → Bool
+unfoldable pub heldFits : Settings → InSlot → Bool
 heldFits z Empty = true
 heldFits z (Full m) = messageFits z m
 
 -- in the ask phase a pair is held only after a tell: the set is empty, or the pair names a rank that the rack has
-abbrev pub toldFits : Sizes → ℕ → Pair → Bool
+abbrev pub toldFits : Settings → ℕ → Pair → Bool
 toldFits z set held = eqb set 0 || pairFits z held
 
 -- in the ask phase: cell and held pair are of this rack, the set has no replica that isn't there, and is no majority
-abbrev pub askFits : Sizes → Cell → ℕ → Pair → Bool
+abbrev pub askFits : Settings → Cell → ℕ → Pair → Bool
 askFits z cell set held = (ltb (cell .0) (z .cells) && toldFits z set held) && (within (z .replicas) set && not (asksEnough (z .replicas) set))
 
 -- in the keep phase: cell and held pair are of this rack, the set has no replica that isn't there, and is no majority
-abbrev pub keepFits : Sizes → Cell → ℕ → Pair → Bool
+abbrev pub keepFits : Settings → Cell → ℕ → Pair → Bool
 keepFits z cell set held = (ltb (cell .0) (z .cells) && pairFits z held) && (within (z .replicas) set && not (keepsEnough (z .replicas) set))
 
 -- an open operation is one that its phase may have; a client without one fits
-unfoldable pub workFits : Sizes → Work → Bool
+unfoldable pub workFits : Settings → Work → Bool
 workFits z Idle = true
 workFits z (Asking cell goal set held) = askFits z cell set held
 workFits z (Keeping cell goal set held) = keepFits z cell set held
@@ -87,19 +87,19 @@ owedIn (suc n) ps = owedIn n ps + owedBy (getD ps n idle)
 
 -- answers owed are one for each open operation of a client not stopped
 unfoldable pub owed : Rack → ℕ
-owed r = owedIn (r .sizes .clients) (r .parties)
+owed r = owedIn (r .settings .clients) (r .parties)
 
 -- every message on the wire
 unfoldable pub wireFits : Rack → Bool
-wireFits r = allBelow slotLimit (λ i. heldFits (r .sizes) (heldAt r i))
+wireFits r = allBelow slotLimit (λ i. heldFits (r .settings) (heldAt r i))
 
 -- every replica's pair for every cell
 unfoldable pub pairsFit : Rack → Bool
-pairsFit r = allBelow (r .sizes .replicas) (λ k. allBelow (r .sizes .cells) (λ x. pairFits (r .sizes) (pairAt r k x)))
+pairsFit r = allBelow (r .settings .replicas) (λ k. allBelow (r .settings .cells) (λ x. pairFits (r .settings) (pairAt r k x)))
 
 -- every client's open operation
 unfoldable pub partiesFit : Rack → Bool
-partiesFit r = allBelow (r .sizes .clients) (λ i. workFits (r .sizes) (partyAt r i .work))
+partiesFit r = allBelow (r .settings .clients) (λ i. workFits (r .settings) (partyAt r i .work))
 
 -- entries + answers owed don't exceed 2,048
 unfoldable pub recordFits : Rack → Bool
@@ -107,4 +107,4 @@ recordFits r = leb (r .count + owed r) entryLimit
 
 -- a state is sound when all of these hold (an operation number above 65,535 can't be written down)
 unfoldable pub soundOf : Rack → Bool
-soundOf r = sizesFit (r .sizes) && (wireFits r && (pairsFit r && (partiesFit r && recordFits r)))
+soundOf r = settingsFit (r .settings) && (wireFits r && (pairsFit r && (partiesFit r && recordFits r)))

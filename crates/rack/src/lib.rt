@@ -20,7 +20,7 @@ pub struct Line {
 }
 
 // How many replicas, clients and cells a rack has.
-pub struct Sizes {
+pub struct Settings {
     pub replicas: u8,
     pub clients: u8,
     pub cells: u8,
@@ -29,7 +29,7 @@ pub struct Sizes {
 // A rack. Of each array only the places within the sizes are part of it, of `lines`, the record, the first `count`, of `power` the bits of its replicas;
 // the pair of replica k for cell x stands at `Cell::LIMIT` k + x. Other places are never looked at and never changed.
 pub struct Rack {
-    pub sizes: Sizes,
+    pub settings: Settings,
     pub power: u16,
     pub count: usize,
     pub parties: [Party; Client::LIMIT],

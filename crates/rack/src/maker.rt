@@ -2,11 +2,11 @@
 ghost use mathlib.Core.Path.{_≡_};
 ghost use Rattle.rack.specs.Places.{idle};
 ghost use Rattle.rack.specs.Run.{freshRack, madeOf};
-ghost use Rattle.rack.specs.Sound.{sizesFit};
+ghost use Rattle.rack.specs.Sound.{settingsFit};
 use crate::Line;
 use crate::Made;
 use crate::Rack;
-use crate::Sizes;
+use crate::Settings;
 use crate::Slot;
 use method::InSlot;
 use method::Party;
@@ -26,7 +26,7 @@ const MOST_CELLS: u32 = Cell::LIMIT as u32;
 
 // 1 to 15 replicas, 1 to 8 clients and 1 to 16 cells.
 pub fn sizes_in(replicas: u32, clients: u32, cells: u32) -> bool
-    ensures { λ r. ⌜ r ≡ sizesFit (record { replicas = replicas; clients = clients; cells = cells }) ⌝ }
+    ensures { λ r. ⌜ r ≡ settingsFit (record { replicas = replicas; clients = clients; cells = cells }) ⌝ }
 {
     if replicas < 1 {
         return false;
@@ -57,10 +57,10 @@ fn idle() -> Party
     }
 }
 
-fn sizes_of(replicas: u8, clients: u8, cells: u8) -> Sizes
+fn sizes_of(replicas: u8, clients: u8, cells: u8) -> Settings
     ensures { λ r. ⌜ r ≡ record { replicas = replicas; clients = clients; cells = cells } ⌝ }
 {
-    Sizes {
+    Settings {
         replicas: replicas,
         clients: clients,
         cells: cells,
@@ -79,14 +79,14 @@ fn fresh(replicas: u8, clients: u8, cells: u8) -> Rack
     let line = Line {
         entry: Entry::Done(Client(0)),
     };
-    let sizes = sizes_of(replicas, clients, cells);
+    let settings = sizes_of(replicas, clients, cells);
     let power = quorum::every(replicas);
     let parties = [party; Client::LIMIT];
     let pairs = [pair; Rack::PAIRS];
     let wire = [slot; Rack::SLOTS];
     let lines = [line; Rack::ENTRIES];
     Rack {
-        sizes: sizes,
+        settings: settings,
         power: power,
         count: 0,
         parties: parties,

@@ -167,8 +167,8 @@ fn go_on(mut r: Rack, start: Start, allowance: usize, events: &[u32]) -> Ran
     let mut i: usize = 0;
     while i < n {
         let event = event_at(events, i);
-        let sizes = r.sizes;
-        if !in_rack(sizes, event) {
+        let settings = r.settings;
+        if !in_rack(settings, event) {
             return ran(i, 3, r);
         }
         let j = slot_of(event);
@@ -179,14 +179,14 @@ fn go_on(mut r: Rack, start: Start, allowance: usize, events: &[u32]) -> Ran
         let party = r.parties[c];
         let pair = r.pairs[a];
         let sight = Sight {
-            replicas: sizes.replicas,
+            replicas: settings.replicas,
             power: r.power,
             party: party,
             pair: pair,
         };
         let planned = plan(sight, held, event);
         let parties = r.parties;
-        let outcome = checked(planned, r.count, parties, sizes.clients, room);
+        let outcome = checked(planned, r.count, parties, settings.clients, room);
         match outcome {
             Decision::No(refusal) => {
                 return ran(i, refusal, r);

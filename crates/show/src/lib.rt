@@ -23,7 +23,7 @@ use number::Put;
 use rack::Line;
 use rack::Rack;
 use rack::Ran;
-use rack::Sizes;
+use rack::Settings;
 use rack::Slot;
 use record::Cell;
 use record::Client;
@@ -348,19 +348,19 @@ fn put_power(out: &mut [u8], at: usize, power: u16, k: Replica) -> usize
 fn put_replica(out: &mut [u8], at: usize, rack: Rack, k: Replica) -> usize
     ensures { λ r. ⌜ Printed (now (out .entry)) at (replicaLine rack (k .0)) r (now (out .exit)) ⌝ }
 {
-    let sizes = rack.sizes;
+    let settings = rack.settings;
     let pairs = rack.pairs;
     let a = put_field(out, at, b"replica ", k.0 as usize);
     let b = put_power(out, a, rack.power, k);
-    let c = put_pairs(out, b, pairs, k, sizes.cells);
+    let c = put_pairs(out, b, pairs, k, settings.cells);
     put_words(out, c, b"\n")
 }
 
 fn put_replicas(out: &mut [u8], at: usize, rack: Rack) -> usize
-    ensures { λ r. ⌜ Printed (now (out .entry)) at (eachBelow (rack .sizes .replicas) (λ k. replicaLine rack k)) r (now (out .exit)) ⌝ }
+    ensures { λ r. ⌜ Printed (now (out .entry)) at (eachBelow (rack .settings .replicas) (λ k. replicaLine rack k)) r (now (out .exit)) ⌝ }
 {
-    let sizes = rack.sizes;
-    let n = sizes.replicas;
+    let settings = rack.settings;
+    let n = settings.replicas;
     let mut next = at;
     let mut k: u8 = 0;
     while k < n {
@@ -422,24 +422,24 @@ fn put_record(out: &mut [u8], at: usize, rack: Rack) -> usize
 
 // ---- the rack, and a run
 
-fn put_sizes(out: &mut [u8], at: usize, sizes: Sizes) -> usize
-    ensures { λ r. ⌜ Printed (now (out .entry)) at (sizesLine sizes) r (now (out .exit)) ⌝ }
+fn put_sizes(out: &mut [u8], at: usize, settings: Settings) -> usize
+    ensures { λ r. ⌜ Printed (now (out .entry)) at (sizesLine settings) r (now (out .exit)) ⌝ }
 {
-    let a = put_field(out, at, b"rack ", sizes.replicas as usize);
-    let b = put_field(out, a, b" ", sizes.clients as usize);
-    let c = put_field(out, b, b" ", sizes.cells as usize);
+    let a = put_field(out, at, b"rack ", settings.replicas as usize);
+    let b = put_field(out, a, b" ", settings.clients as usize);
+    let c = put_field(out, b, b" ", settings.cells as usize);
     put_words(out, c, b"\n")
 }
 
 fn put_rack(out: &mut [u8], at: usize, rack: Rack) -> usize
     ensures { λ r. ⌜ Printed (now (out .entry)) at (rackText rack) r (now (out .exit)) ⌝ }
 {
-    let sizes = rack.sizes;
+    let settings = rack.settings;
     let parties = rack.parties;
     let wire = rack.wire;
-    let a = put_sizes(out, at, sizes);
+    let a = put_sizes(out, at, settings);
     let b = put_replicas(out, a, rack);
-    let c = put_clients(out, b, parties, sizes.clients);
+    let c = put_clients(out, b, parties, settings.clients);
     let d = put_wire(out, c, wire);
     put_record(out, d, rack)
 }

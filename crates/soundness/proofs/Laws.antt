@@ -20,6 +20,6 @@ pub record-over : (r : Rack) → 2048 < r .count → false ≡ recordFits r
 unfolding recordFits
 record-over r h = sym (lt-leb (r .count + owed r) 2048 (omega arith))
 
-pub record-is : (r : Rack) (n : ℕ) → n ≡ owedIn (r .sizes .clients) (r .parties) → leb (r .count + n) 2048 ≡ recordFits r
+pub record-is : (r : Rack) (n : ℕ) → n ≡ owedIn (r .settings .clients) (r .parties) → leb (r .count + n) 2048 ≡ recordFits r
 unfolding recordFits
 record-is r n e = ap (λ (k : ℕ). leb (r .count + k) 2048) (e ∙ sym (owed-in r))

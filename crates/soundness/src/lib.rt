@@ -4,120 +4,120 @@ ghost use mathlib.Core.Bool.{true};
 ghost use Prim.Native.Nat.{_<_, _≤_};
 ghost use Rattle.record.specs.Entry.{clientLimit, cellLimit};
 ghost use Rattle.rack.specs.Places.{replicaLimit, pairAt};
-ghost use Rattle.rack.specs.Sound.{allBelow, sizesFit, pairFits, bodyFits, messageFits, heldFits, toldFits, askFits, keepFits, workFits, wireFits, pairsFit, partiesFit};
+ghost use Rattle.rack.specs.Sound.{allBelow, settingsFit, pairFits, bodyFits, messageFits, heldFits, toldFits, askFits, keepFits, workFits, wireFits, pairsFit, partiesFit};
 ghost use Rattle.rack.specs.Sound.{recordFits, soundOf};
 use method::Body;
 use method::InSlot;
 use method::Message;
 use method::Work;
 use rack::Rack;
-use rack::Sizes;
+use rack::Settings;
 use rack::maker::sizes_in;
 use rack::owed::owed_by_all;
 use record::Cell;
 use stamps::Pair;
 
-fn sizes_fit(sizes: Sizes) -> bool
-    ensures { λ r. ⌜ r ≡ sizesFit sizes ⌝ }
+fn sizes_fit(settings: Settings) -> bool
+    ensures { λ r. ⌜ r ≡ settingsFit settings ⌝ }
 {
     sizes_in(
-        sizes.replicas as u32,
-        sizes.clients as u32,
-        sizes.cells as u32,
+        settings.replicas as u32,
+        settings.clients as u32,
+        settings.cells as u32,
     )
 }
 
 // A pair names a rank that the rack has.
-fn pair_fits(sizes: Sizes, pair: Pair) -> bool
-    ensures { λ r. ⌜ r ≡ pairFits sizes pair ⌝ }
+fn pair_fits(settings: Settings, pair: Pair) -> bool
+    ensures { λ r. ⌜ r ≡ pairFits settings pair ⌝ }
 {
     let stamp = pair.stamp;
-    stamp.rank < sizes.clients
+    stamp.rank < settings.clients
 }
 
-fn body_fits(sizes: Sizes, body: Body) -> bool
-    ensures { λ r. ⌜ r ≡ bodyFits sizes body ⌝ }
+fn body_fits(settings: Settings, body: Body) -> bool
+    ensures { λ r. ⌜ r ≡ bodyFits settings body ⌝ }
 {
     match body {
         Body::Ask => true,
-        Body::Tell(pair) => pair_fits(sizes, pair),
-        Body::Keep(pair) => pair_fits(sizes, pair),
+        Body::Tell(pair) => pair_fits(settings, pair),
+        Body::Keep(pair) => pair_fits(settings, pair),
         Body::Kept => true,
     }
 }
 
 // A message names a client, a replica, a cell and a rank that the rack has.
-fn message_fits(sizes: Sizes, m: Message) -> bool
-    ensures { λ r. ⌜ r ≡ messageFits sizes m ⌝ }
+fn message_fits(settings: Settings, m: Message) -> bool
+    ensures { λ r. ⌜ r ≡ messageFits settings m ⌝ }
 {
     let client = m.client;
     let replica = m.replica;
     let cell = m.cell;
     let body = m.body;
-    if sizes.clients <= client.0 {
+    if settings.clients <= client.0 {
         return false;
     }
-    if sizes.replicas <= replica.0 {
+    if settings.replicas <= replica.0 {
         return false;
     }
-    if sizes.cells <= cell.0 {
+    if settings.cells <= cell.0 {
         return false;
     }
-    body_fits(sizes, body)
+    body_fits(settings, body)
 }
 
-fn held_fits(sizes: Sizes, held: InSlot) -> bool
-    ensures { λ r. ⌜ r ≡ heldFits sizes held ⌝ }
+fn held_fits(settings: Settings, held: InSlot) -> bool
+    ensures { λ r. ⌜ r ≡ heldFits settings held ⌝ }
 {
     match held {
         InSlot::Empty => true,
-        InSlot::Full(m) => message_fits(sizes, m),
+        InSlot::Full(m) => message_fits(settings, m),
     }
 }
 
 // Where an ask phase holds a pair, it names a rank that the rack has.
-fn told_fits(sizes: Sizes, set: u16, held: Pair) -> bool
-    ensures { λ r. ⌜ r ≡ toldFits sizes set held ⌝ }
+fn told_fits(settings: Settings, set: u16, held: Pair) -> bool
+    ensures { λ r. ⌜ r ≡ toldFits settings set held ⌝ }
 {
     if set == 0 {
         return true;
     }
-    pair_fits(sizes, held)
+    pair_fits(settings, held)
 }
 
-fn ask_fits(sizes: Sizes, cell: Cell, set: u16, held: Pair) -> bool
-    ensures { λ r. ⌜ r ≡ askFits sizes cell set held ⌝ }
+fn ask_fits(settings: Settings, cell: Cell, set: u16, held: Pair) -> bool
+    ensures { λ r. ⌜ r ≡ askFits settings cell set held ⌝ }
 {
-    if sizes.cells <= cell.0 {
+    if settings.cells <= cell.0 {
         return false;
     }
-    if !told_fits(sizes, set, held) {
+    if !told_fits(settings, set, held) {
         return false;
     }
-    if !quorum::within(sizes.replicas, set) {
+    if !quorum::within(settings.replicas, set) {
         return false;
     }
-    !quorum::asks_enough(sizes.replicas, set)
+    !quorum::asks_enough(settings.replicas, set)
 }
 
-fn keep_fits(sizes: Sizes, cell: Cell, set: u16, held: Pair) -> bool
-    ensures { λ r. ⌜ r ≡ keepFits sizes cell set held ⌝ }
+fn keep_fits(settings: Settings, cell: Cell, set: u16, held: Pair) -> bool
+    ensures { λ r. ⌜ r ≡ keepFits settings cell set held ⌝ }
 {
-    if sizes.cells <= cell.0 {
+    if settings.cells <= cell.0 {
         return false;
     }
-    if !pair_fits(sizes, held) {
+    if !pair_fits(settings, held) {
         return false;
     }
-    if !quorum::within(sizes.replicas, set) {
+    if !quorum::within(settings.replicas, set) {
         return false;
     }
-    !quorum::keeps_enough(sizes.replicas, set)
+    !quorum::keeps_enough(settings.replicas, set)
 }
 
 // An open operation names what the rack has; its set has no replica that isn't there, and is no majority.
-fn work_fits(sizes: Sizes, work: Work) -> bool
-    ensures { λ r. ⌜ r ≡ workFits sizes work ⌝ }
+fn work_fits(settings: Settings, work: Work) -> bool
+    ensures { λ r. ⌜ r ≡ workFits settings work ⌝ }
 {
     match work {
         Work::Idle => true,
@@ -126,13 +126,13 @@ fn work_fits(sizes: Sizes, work: Work) -> bool
             goal: _,
             set,
             held,
-        } => ask_fits(sizes, cell, set, held),
+        } => ask_fits(settings, cell, set, held),
         Work::Keeping {
             cell,
             goal: _,
             set,
             held,
-        } => keep_fits(sizes, cell, set, held),
+        } => keep_fits(settings, cell, set, held),
     }
 }
 
@@ -140,12 +140,12 @@ fn work_fits(sizes: Sizes, work: Work) -> bool
 fn wire_fits(rack: Rack) -> bool
     ensures { λ r. ⌜ r ≡ wireFits rack ⌝ }
 {
-    let sizes = rack.sizes;
+    let settings = rack.settings;
     let mut i: usize = 0;
     while i < Rack::SLOTS {
         let slot = rack.wire[i];
         let held = slot.held;
-        if !held_fits(sizes, held) {
+        if !held_fits(settings, held) {
             return false;
         }
         i += 1;
@@ -155,15 +155,15 @@ fn wire_fits(rack: Rack) -> bool
 
 // A replica's pair for every cell.
 fn replica_fits(rack: Rack, k: usize) -> bool
-    requires { ⌜ (k < replicaLimit) × (rack .sizes .cells ≤ cellLimit) ⌝ }
-    ensures { λ r. ⌜ r ≡ allBelow (rack .sizes .cells) (λ x. pairFits (rack .sizes) (pairAt rack k x)) ⌝ }
+    requires { ⌜ (k < replicaLimit) × (rack .settings .cells ≤ cellLimit) ⌝ }
+    ensures { λ r. ⌜ r ≡ allBelow (rack .settings .cells) (λ x. pairFits (rack .settings) (pairAt rack k x)) ⌝ }
 {
-    let sizes = rack.sizes;
-    let n = sizes.cells as usize;
+    let settings = rack.settings;
+    let n = settings.cells as usize;
     let mut x: usize = 0;
     while x < n {
         let pair = rack.pairs[Cell::LIMIT * k + x];
-        if !pair_fits(sizes, pair) {
+        if !pair_fits(settings, pair) {
             return false;
         }
         x += 1;
@@ -173,11 +173,11 @@ fn replica_fits(rack: Rack, k: usize) -> bool
 
 // Every replica's pair for every cell.
 fn pairs_fit(rack: Rack) -> bool
-    requires { ⌜ (rack .sizes .replicas ≤ replicaLimit) × (rack .sizes .cells ≤ cellLimit) ⌝ }
+    requires { ⌜ (rack .settings .replicas ≤ replicaLimit) × (rack .settings .cells ≤ cellLimit) ⌝ }
     ensures { λ r. ⌜ r ≡ pairsFit rack ⌝ }
 {
-    let sizes = rack.sizes;
-    let n = sizes.replicas as usize;
+    let settings = rack.settings;
+    let n = settings.replicas as usize;
     let mut k: usize = 0;
     while k < n {
         if !replica_fits(rack, k) {
@@ -190,16 +190,16 @@ fn pairs_fit(rack: Rack) -> bool
 
 // Every client's open operation.
 fn parties_fit(rack: Rack) -> bool
-    requires { ⌜ rack .sizes .clients ≤ clientLimit ⌝ }
+    requires { ⌜ rack .settings .clients ≤ clientLimit ⌝ }
     ensures { λ r. ⌜ r ≡ partiesFit rack ⌝ }
 {
-    let sizes = rack.sizes;
-    let n = sizes.clients as usize;
+    let settings = rack.settings;
+    let n = settings.clients as usize;
     let mut i: usize = 0;
     while i < n {
         let party = rack.parties[i];
         let work = party.work;
-        if !work_fits(sizes, work) {
+        if !work_fits(settings, work) {
             return false;
         }
         i += 1;
@@ -212,17 +212,17 @@ fn record_fits(rack: Rack) -> bool
     ensures { λ r. ⌜ r ≡ recordFits rack ⌝ }
 {
     let parties = rack.parties;
-    let sizes = rack.sizes;
+    let settings = rack.settings;
     let count = rack.count;
     if Rack::ENTRIES < count {
         return false;
     }
-    count + owed_by_all(parties, sizes.clients) <= Rack::ENTRIES
+    count + owed_by_all(parties, settings.clients) <= Rack::ENTRIES
 }
 
 // Whether a rack of permitted sizes is sound.
 fn parts_fit(rack: Rack) -> bool
-    requires { ⌜ sizesFit (rack .sizes) ≡ true ⌝ }
+    requires { ⌜ settingsFit (rack .settings) ≡ true ⌝ }
     ensures { λ r. ⌜ r ≡ soundOf rack ⌝ }
 {
     if !wire_fits(rack) {
@@ -241,8 +241,8 @@ fn parts_fit(rack: Rack) -> bool
 pub fn sound(rack: Rack) -> bool
     ensures { λ r. ⌜ r ≡ soundOf rack ⌝ }
 {
-    let sizes = rack.sizes;
-    if sizes_fit(sizes) {
+    let settings = rack.settings;
+    if sizes_fit(settings) {
         return parts_fit(rack);
     }
     false

@@ -26,7 +26,7 @@ use method::Party;
 use method::Work;
 use rack::Line;
 use rack::Rack;
-use rack::Sizes;
+use rack::Settings;
 use rack::Slot;
 use record::Cell;
 use record::Client;
@@ -469,14 +469,14 @@ fn replicas_of(replicas: u32, power: u32) -> u8
     STRAY
 }
 
-fn sizes_of(words: &[u32]) -> Sizes
+fn sizes_of(words: &[u32]) -> Settings
     requires { ⌜ length (now words) ≡ wordCount ⌝ }
     ensures { λ r. ⌜ r ≡ sizesIn (now (words .entry)) ⌝ }
 {
     let replicas = replicas_of(words[0], words[3]);
     let clients = byte_at(words, 1);
     let cells = byte_at(words, 2);
-    Sizes {
+    Settings {
         replicas: replicas,
         clients: clients,
         cells: cells,
@@ -488,7 +488,7 @@ fn load(words: &[u32]) -> Rack
     requires { ⌜ length (now words) ≡ wordCount ⌝ }
     ensures { λ r. ⌜ r ≡ rackOf (now (words .entry)) ⌝ }
 {
-    let sizes = sizes_of(words);
+    let settings = sizes_of(words);
     let power = power_of(words[3]);
     let n = count_of(words);
     let count = count_in(words, n);
@@ -497,7 +497,7 @@ fn load(words: &[u32]) -> Rack
     let wire = wire_of(words);
     let lines = lines_of(words, n);
     Rack {
-        sizes: sizes,
+        settings: settings,
         power: power,
         count: count,
         parties: parties,
@@ -686,11 +686,11 @@ fn put_head(words: &mut [u32], rack: Rack)
     requires { ⌜ (length (now words) ≡ wordCount) × (rack .count ≤ entryLimit) ⌝ }
     ensures { λ r. ⌜ now (words .exit) ≡ headOf rack (now (words .entry)) ⌝ }
 {
-    let sizes = rack.sizes;
+    let settings = rack.settings;
     let five = [
-        sizes.replicas as u32,
-        sizes.clients as u32,
-        sizes.cells as u32,
+        settings.replicas as u32,
+        settings.clients as u32,
+        settings.cells as u32,
         rack.power as u32,
         rack.count as u32,
     ];
@@ -762,15 +762,15 @@ fn put_members(words: &mut [u32], rack: Rack)
     requires { ⌜ (length (now words) ≡ wordCount) × (soundOf rack ≡ true) ⌝ }
     ensures { λ r. ⌜ now (words .exit) ≡ pairsPut rack (partiesPut rack (now (words .entry))) ⌝ }
 {
-    let sizes = rack.sizes;
+    let settings = rack.settings;
     let parties = rack.parties;
-    put_parties(words, parties, sizes.clients as usize);
+    put_parties(words, parties, settings.clients as usize);
     let pairs = rack.pairs;
     put_pairs(
         words,
         pairs,
-        Cell::LIMIT * (sizes.replicas as usize),
-        sizes.cells as usize,
+        Cell::LIMIT * (settings.replicas as usize),
+        settings.cells as usize,
     )
 }
 

@@ -24,7 +24,7 @@ use Rattle.method.specs.declared.Message.{Message}
 use Rattle.rack.specs.declared.Slot.{Slot}
 use Rattle.method.specs.declared.Party.{Party}
 use Rattle.rack.specs.declared.Line.{Line}
-use Rattle.rack.specs.declared.Sizes.{Sizes}
+use Rattle.rack.specs.declared.Settings.{Settings}
 use Rattle.rack.specs.declared.Rack.{Rack}
 use Rattle.method.specs.declared.Event.{Event}
 use Rattle.method.specs.declared.Event.the-variants.{Unknown}
@@ -37,7 +37,7 @@ use Rattle.rack.specs.declared.Made.{Made}
 use Rattle.stamps.specs.Stamp.{freshPair}
 use Rattle.method.specs.Plan.{messageOf, planOf}
 use Rattle.rack.specs.Places.{slotLimit, empty, full, idle, heldIn, freeAt, roomOf, sentOf, recordOf}
-use Rattle.rack.specs.Sound.{sizesFit, owed, soundOf}
+use Rattle.rack.specs.Sound.{settingsFit, owed, soundOf}
 use Rattle.rack.specs.Run.{freshRack, madeOf, byte, eventOf, slotOf, decided, checked, addressed, cleared, recorded, entriesIn, appliedOf, turn, runFrom, runOf}
 use Rattle.rack.specs.laws.SoundLaws.{Sized, Sound, sound-of}
 use Rattle.rack.specs.laws.Decided.{lookedHeld, lookedClient, lookedParty, lookedPlace, lookedPair, sight, Decided, decided-fits, checked-go}
@@ -53,7 +53,7 @@ use Rattle.back.specs.laws.Plans.{whose, needs, leaves, Enters, Noted, K
 -- ---- one entry more
 
 -- an entry of a rack is in range
-in-range : (z : Sizes) → Sized z → (e : Entry) → Within z e → InRange e
+in-range : (z : Settings) → Sized z → (e : Entry) → Within z e → InRange e
 in-range z n (ReadAsked client cell) w = (omega (arith, w .0, n .clients), omega (arith, w .1, n .cells))
 in-range z n (WriteAsked client cell v) w = (omega (arith, w .0, n .clients), omega (arith, w .1, n .cells), w .2)
 in-range z n (Told client v) w = (omega (arith, w .0, n .clients), w .1)
@@ -79,18 +79,18 @@ follows-next : (st : Standing) (es : List Entry) (e : Entry) → Follows st es �
 follows-next st [] e f r h = (r, h, tt)
 follows-next st (d ∷ es) e f r h = (f .0, f .1, follows-next (standingAfter st d) es e (f .2) r h)
 
-within-next : (z : Sizes) (es : List Entry) (e : Entry) → AllWithin z es → Within z e → AllWithin z (es ++ (e ∷ []))
+within-next : (z : Settings) (es : List Entry) (e : Entry) → AllWithin z es → Within z e → AllWithin z (es ++ (e ∷ []))
 within-next z [] e w h = (h, tt)
 within-next z (d ∷ es) e w h = (w .0, within-next z es e (w .1) h)
 
 -- The record es goes on as fs: nothing of it is at fault, client k has `after` open, and the others have what they had.
-record Goes (z : Sizes) (es fs : List Entry) (k after : ℕ) : Type 0 where
+record Goes (z : Settings) (es fs : List Entry) (k after : ℕ) : Type 0 where
   within : AllWithin z fs
   follows : Follows fresh fs
   own : has (standing fs) k ≡ after
   others : (i : ℕ) → i ≢ k → has (standing fs) i ≡ has (standing es) i
 
-goes-on : (z : Sizes) → Sized z → (es : List Entry) (k before after : ℕ) (e : Entry) → AllWithin z es → Follows fresh es → has (standing es) k ≡ before
+goes-on : (z : Settings) → Sized z → (es : List Entry) (k before after : ℕ) (e : Entry) → AllWithin z es → Follows fresh es → has (standing es) k ≡ before
     → Enters z k before e after → Goes z es (es ++ (e ∷ [])) k after
 goes-on z n es k before after e w f h t =
     let c : whose e ≡ k = t .client in
@@ -114,7 +114,7 @@ goes-on z n es k before after e w f h t =
 -- ---- the record after a note
 
 -- what a note makes of the record
-note-goes : (z : Sizes) → Sized z → (es : List Entry) (note : Note) (k before after : ℕ) → AllWithin z es → Follows fresh es → has (standing es) k ≡ before
+note-goes : (z : Settings) → Sized z → (es : List Entry) (note : Note) (k before after : ℕ) → AllWithin z es → Follows fresh es → has (standing es) k ≡ before
     → Noted z k before note after → Goes z es (es ++ added note) k after
 note-goes z n es Nothing k before after w f h t = rw (append-nil es) (record { within = w; follows = f; own = h ∙ sym t; others = λ i d. refl })
 note-goes z n es (Asked e) k before after w f h t = goes-on z n es k before after e w f h t
@@ -142,12 +142,12 @@ unfolding cleared
 cleared-small true j w h i = set-either (λ (x : Slot). HeldSmall (x .held)) w j empty empty i tt (h i)
 cleared-small false j w h i = h i
 
-small-stays : (r : Rack) (e : Event) (p : Plan) (k before : ℕ) → FitsWords r → Keeps (r .sizes) k before p → FitsWords (appliedOf r e p)
+small-stays : (r : Rack) (e : Event) (p : Plan) (k before : ℕ) → FitsWords r → Keeps (r .settings) k before p → FitsWords (appliedOf r e p)
 unfolding appliedOf
 small-stays r e p k before s h =
     record {
       pairs = λ i. set-either PairSmall (r .pairs) (lookedPlace r e) (p .pair) freshPair i (h .pair) (s .pairs i);
-      wire = sent-small (p .message) (membersOf (r .sizes .replicas) (p .to)) (cleared (p .clear) (slotOf e) (r .wire)) (h .body)
+      wire = sent-small (p .message) (membersOf (r .settings .replicas) (p .to)) (cleared (p .clear) (slotOf e) (r .wire)) (h .body)
           (cleared-small (p .clear) (slotOf e) (r .wire) (s .wire));
       works = λ i. set-either (λ (q : Party). WorkSmall (q .work)) (r .parties) (lookedClient r e) (p .party) idle i (h .work) (s .works i);
     }
@@ -165,15 +165,15 @@ decided-plan r e p h g =
 
 -- it keeps to the record
 decided-keeps : (r : Rack) (e : Event) (p : Plan) → soundOf r ≡ true → FitsWords r → EventSmall e → decided r e ≡ Go p
-    → Keeps (r .sizes) (lookedClient r e) (openIn (lookedParty r e .work)) p
+    → Keeps (r .settings) (lookedClient r e) (openIn (lookedParty r e .work)) p
 decided-keeps r e p h s v g =
     let d : Decided r e p = decided-fits r e p h g in
-    subst (OutcomeKeeps (r .sizes) (lookedClient r e) (openIn (lookedParty r e .work))) (decided-plan r e p h g)
-    (plan-keeps (r .sizes) (r .power) (lookedParty r e) (lookedPair r e) (s .works (lookedClient r e)) (s .pairs (lookedPlace r e)) (lookedHeld r e) (d .looked .held)
+    subst (OutcomeKeeps (r .settings) (lookedClient r e) (openIn (lookedParty r e .work))) (decided-plan r e p h g)
+    (plan-keeps (r .settings) (r .power) (lookedParty r e) (lookedPair r e) (s .works (lookedClient r e)) (s .pairs (lookedPlace r e)) (lookedHeld r e) (d .looked .held)
     (s .wire (slotOf e)) e (d .inside) v)
 
 -- each client is at what the record leaves it open
-stand-next : (z : Sizes) (es fs : List Entry) (k : ℕ) (ps : List Party) (q : Party) → Goes z es fs k (openIn (q .work)) → k < length ps
+stand-next : (z : Settings) (es fs : List Entry) (k : ℕ) (ps : List Party) (q : Party) → Goes z es fs k (openIn (q .work)) → k < length ps
     → (i : ℕ) → has (standing es) i ≡ openIn (getD ps i idle .work) → has (standing fs) i ≡ openIn (getD (set ps k q) i idle .work)
 stand-next z es fs k ps q t l i h = go (ℕ-discrete i k)
   where
@@ -196,12 +196,12 @@ agree-stays r e p h a v g =
     let k : ℕ = lookedClient r e in
     let s : Sound r = sound-of r h in
     let d : Decided r e p = decided-fits r e p h g in
-    let c : k < r .sizes .clients = d .looked .client in
-    let q : Keeps (r .sizes) k (openIn (lookedParty r e .work)) p = decided-keeps r e p h (a .small) v g in
+    let c : k < r .settings .clients = d .looked .client in
+    let q : Keeps (r .settings) k (openIn (lookedParty r e .work)) p = decided-keeps r e p h (a .small) v g in
     let most : r .count + entriesIn (p .note) ≤ entryLimit = room-stays r e p h g in
     let long : length (recorded (p .note) (r .count) (r .lines)) ≡ entryLimit = recorded-long (p .note) (r .count) (r .lines) ∙ a .lines in
     let t = rw (← record-next r e p h a g) at
-    (note-goes (r .sizes) (s .sizes) (recordOf r) (p .note) k _ (openIn (p .party .work)) (a .within) (a .follows) (a .stands k c) (q .note)) in
+    (note-goes (r .settings) (s .settings) (recordOf r) (p .note) k _ (openIn (p .party .work)) (a .within) (a .follows) (a .stands k c) (q .note)) in
     record {
       parties = length-set (r .parties) k (p .party) ∙ a .parties;
       lines = long;
@@ -210,7 +210,7 @@ agree-stays r e p h a v g =
       small = small-stays r e p k (openIn (lookedParty r e .work)) (a .small) q;
       within = t .within;
       follows = t .follows;
-      stands = λ i l. stand-next (r .sizes) _ _ k (r .parties) (p .party) t (omega (arith, a .parties, s .sizes .clients)) i (a .stands i l);
+      stands = λ i l. stand-next (r .settings) _ _ k (r .parties) (p .party) t (omega (arith, a .parties, s .settings .clients)) i (a .stands i l);
     }
 
 -- ---- a run
@@ -284,7 +284,7 @@ fresh-agrees replicas clients cells =
 -- what the maker gives, whatever the sizes
 pub made-agrees : (replicas clients cells : ℕ) → Agrees (madeOf replicas clients cells .rack)
 unfolding madeOf
-made-agrees replicas clients cells = go (sizesFit (record { replicas = replicas; clients = clients; cells = cells }))
+made-agrees replicas clients cells = go (settingsFit (record { replicas = replicas; clients = clients; cells = cells }))
   where
     go : (t : Bool) → Agrees (cond {A = Made} t (record { refusal = 0; rack = freshRack replicas clients cells }) (record { refusal = 1; rack = freshRack 1 1 1 }) .rack)
     go true = fresh-agrees replicas clients cells
@@ -293,7 +293,7 @@ made-agrees replicas clients cells = go (sizesFit (record { replicas = replicas;
 -- and its record is empty
 pub made-empty : (replicas clients cells : ℕ) → recordOf (madeOf replicas clients cells .rack) ≡ []
 unfolding madeOf freshRack recordOf
-made-empty replicas clients cells = go (sizesFit (record { replicas = replicas; clients = clients; cells = cells }))
+made-empty replicas clients cells = go (settingsFit (record { replicas = replicas; clients = clients; cells = cells }))
   where
     go : (t : Bool) → recordOf (cond {A = Made} t (record { refusal = 0; rack = freshRack replicas clients cells }) (record { refusal = 1; rack = freshRack 1 1 1 }) .rack) ≡ []
     go true = refl

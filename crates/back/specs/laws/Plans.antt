@@ -22,7 +22,7 @@ use Rattle.method.specs.declared.Goal.the-variants.{Read, Write}
 use Rattle.method.specs.declared.Work.{Work}
 use Rattle.method.specs.declared.Work.the-variants.{Idle, Asking, Keeping}
 use Rattle.method.specs.declared.Party.{Party}
-use Rattle.rack.specs.declared.Sizes.{Sizes}
+use Rattle.rack.specs.declared.Settings.{Settings}
 use Rattle.stamps.specs.Stamp.{stampLess, raised}
 use Rattle.method.specs.declared.Sight.{Sight}
 use Rattle.method.specs.declared.Event.{Event}
@@ -66,7 +66,7 @@ leaves (Told client v) = 0
 leaves (Done client) = 0
 
 -- an entry of client k of the rack, which has `before` open and then `after`
-pub record Enters (z : Sizes) (k before : ℕ) (e : Entry) (after : ℕ) : Type 0 where
+pub record Enters (z : Settings) (k before : ℕ) (e : Entry) (after : ℕ) : Type 0 where
   pub client : whose e ≡ k
   pub within : Within z e
   pub needed : before ≡ needs e
@@ -75,20 +75,20 @@ pub record Enters (z : Sizes) (k before : ℕ) (e : Entry) (after : ℕ) : Type 
 -- ---- a plan
 
 -- what client k has open changes only with an entry
-abbrev pub Noted : Sizes → ℕ → ℕ → Note → ℕ → Type 0
+abbrev pub Noted : Settings → ℕ → ℕ → Note → ℕ → Type 0
 Noted z k before Nothing after = after ≡ before
 Noted z k before (Asked e) after = Enters z k before e after
 Noted z k before (Ended e) after = Enters z k before e after
 
 -- a plan for an event that looked at client k, which has `before` open
-pub record Keeps (z : Sizes) (k before : ℕ) (p : Plan) : Type 0 where
+pub record Keeps (z : Settings) (k before : ℕ) (p : Plan) : Type 0 where
   pub note : Noted z k before (p .note) (openIn (p .party .work))
   pub work : WorkSmall (p .party .work)
   pub pair : PairSmall (p .pair)
   pub body : BodySmall (p .message .body)
 
 -- what holds of an outcome: of a refusal nothing, of a plan the above
-abbrev pub OutcomeKeeps : Sizes → ℕ → ℕ → Decision → Type 0
+abbrev pub OutcomeKeeps : Settings → ℕ → ℕ → Decision → Type 0
 OutcomeKeeps z k before (No n) = Unit {0}
 OutcomeKeeps z k before (Go p) = Keeps z k before p
 
@@ -112,7 +112,7 @@ holds-small set held q h hq = go (eqb set 0)
 
 -- ---- an event's outcome, from a client and a pair whose values are small
 
-module _ (z : Sizes) (power : ℕ) (party : Party) (pair : Pair) (work : WorkSmall (party .work)) (here : PairSmall pair) where
+module _ (z : Settings) (power : ℕ) (party : Party) (pair : Pair) (work : WorkSmall (party .work)) (here : PairSmall pair) where
   -- what the event looks at: the number of replicas, the power, the client and the pair
   abbrev seen : Sight
   seen = record { replicas = z .replicas; power = power; party = party; pair = pair }

@@ -22,7 +22,7 @@ use Rattle.method.specs.declared.Goal.the-variants.{Read, Write}
 use Rattle.method.specs.declared.Work.{Work}
 use Rattle.method.specs.declared.Work.the-variants.{Idle, Asking, Keeping}
 use Rattle.method.specs.declared.Party.{Party}
-use Rattle.rack.specs.declared.Sizes.{Sizes}
+use Rattle.rack.specs.declared.Settings.{Settings}
 use Rattle.rack.specs.declared.Rack.{Rack}
 use Rattle.method.specs.declared.Sight.{Sight}
 use Rattle.method.specs.declared.Event.{Event}
@@ -294,22 +294,22 @@ module _ (n : ℕ) (few : n ≤ setBits) (power : ℕ) (party : Party) (pair : P
 -- ---- an event that is done
 
 -- its message is to or from a replica of the rack
-held-replica : (z : Sizes) (held : InSlot) (m : Message) → heldFits z held ≡ true → held ≡ Full m → m .replica .0 < z .replicas
+held-replica : (z : Settings) (held : InSlot) (m : Message) → heldFits z held ≡ true → held ≡ Full m → m .replica .0 < z .replicas
 unfolding heldFits
 held-replica z held m h e = named z m (ap (heldFits z) (sym e) ∙ h) .replica
 
 -- the plan that passed is the plan for the event, and adds what plans add
 pub decided-counts : (r : Rack) (e : Event) (p : Plan) → soundOf r ≡ true → decided r e ≡ Go p
-    → PlanCounts (r .sizes .replicas) (lookedClient r e) (lookedParty r e) e p
+    → PlanCounts (r .settings .replicas) (lookedClient r e) (lookedParty r e) e p
 unfolding decided setBits
 decided-counts r e p h g =
     let s : Sound r = sound-of r h in
     let d : Decided r e p = decided-fits r e p h g in
-    let few : r .sizes .replicas ≤ 16 = omega (arith, s .sizes .replicas) in
+    let few : r .settings .replicas ≤ 16 = omega (arith, s .settings .replicas) in
     let o = planOf (sight r e) (lookedHeld r e) e in
     let c : checked o (r .count + owed r) (roomOf (r .wire)) ≡ Go p =
     ap (λ (t : Bool). cond t (checked o (r .count + owed r) (roomOf (r .wire))) (No 3)) (sym (d .inside)) ∙ g in
-    subst (OutcomeCounts (r .sizes .replicas) (lookedClient r e) (lookedParty r e) e)
+    subst (OutcomeCounts (r .settings .replicas) (lookedClient r e) (lookedParty r e) e)
     (checked-go o (r .count + owed r) (roomOf (r .wire)) p (s .entries) c .same)
-    (plan-counts (r .sizes .replicas) few (r .power) (lookedParty r e) (lookedPair r e) (lookedHeld r e)
-    (λ m q. omega (arith, s .sizes .replicas, held-replica (r .sizes) (lookedHeld r e) m (d .looked .held) q)) e)
+    (plan-counts (r .settings .replicas) few (r .power) (lookedParty r e) (lookedPair r e) (lookedHeld r e)
+    (λ m q. omega (arith, s .settings .replicas, held-replica (r .settings) (lookedHeld r e) m (d .looked .held) q)) e)

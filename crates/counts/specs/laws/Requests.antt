@@ -75,7 +75,7 @@ applied-ends c r e p h g l = ends-noted c (p .note) (r .count) (r .lines) (omega
 
 -- ---- the clients after an event
 
-applied-sizes : (r : Rack) (e : Event) (p : Plan) → appliedOf r e p .sizes ≡ r .sizes
+applied-sizes : (r : Rack) (e : Event) (p : Plan) → appliedOf r e p .settings ≡ r .settings
 unfolding appliedOf
 applied-sizes r e p = refl
 
@@ -95,7 +95,7 @@ applied-else r e p c n = getD-set-other (r .parties) (lookedClient r e) c (p .pa
 -- operation numbers.
 pub record Numbered (n c : ℕ) (r : Rack) : Type 0 where
   pub sound : soundOf r ≡ true
-  pub replicas : r .sizes .replicas ≡ n
+  pub replicas : r .settings .replicas ≡ n
   pub parties-long : length (r .parties) ≡ 8
   pub lines-long : length (r .lines) ≡ entryLimit
   pub ends : endsOf c (recordOf r) + owes (partyAt r c .work) ≡ partyAt r c .op
@@ -127,7 +127,7 @@ module _ (n c k : ℕ) where
       d = rw (sym (i .replicas)) (decided-counts r e p (i .sound) g)
 
       inside : lookedClient r e < length (r .parties)
-      inside = omega (arith, decided-fits r e p (i .sound) g .looked .client, sound-of r (i .sound) .sizes .clients, i .parties-long)
+      inside = omega (arith, decided-fits r e p (i .sound) g .looked .client, sound-of r (i .sound) .settings .clients, i .parties-long)
 
       go : (t : Bool) → eqb (lookedClient r e) c ≡ t → Added r e p
       go true q =
@@ -164,7 +164,7 @@ fresh-cost n k h = rw (le-ltb k 0 (omega arith), ne-eqb k 0 (λ e. omega arith))
 
 -- a rack of which all but soundness is plain
 abbrev Fresh : ℕ → Rack → Type 0
-Fresh c r = soundOf r ≡ true → Numbered (r .sizes .replicas) c r × (partyAt r c ≡ idle)
+Fresh c r = soundOf r ≡ true → Numbered (r .settings .replicas) c r × (partyAt r c ≡ idle)
 
 fresh-numbered : (c replicas clients cells : ℕ) → Fresh c (freshRack replicas clients cells)
 unfolding freshRack recordOf endsOf owes
@@ -204,41 +204,41 @@ unfolding costOf
 present-cost n party = rw (le-ltb (party .op) (party .op) (omega arith), eq-eqb (party .op) (party .op) refl)
 
 module _ (replicas clients cells allowance : ℕ) (ws : List ℕ) where
-  ran : (c k : ℕ) → 1 ≤ k → Numbered ((madeRack replicas clients cells) .sizes .replicas) c (rackAfter replicas clients cells allowance ws)
-      × (costOf ((madeRack replicas clients cells) .sizes .replicas) (partyAt (rackAfter replicas clients cells allowance ws) c) k + totalOf (resentBy c k)
+  ran : (c k : ℕ) → 1 ≤ k → Numbered ((madeRack replicas clients cells) .settings .replicas) c (rackAfter replicas clients cells allowance ws)
+      × (costOf ((madeRack replicas clients cells) .settings .replicas) (partyAt (rackAfter replicas clients cells allowance ws) c) k + totalOf (resentBy c k)
       (madeRack replicas clients cells) allowance ws ≡ totalOf (requestsBy c k) (madeRack replicas clients cells) allowance ws)
   ran c k h =
       let s = made-sound replicas clients cells in
       let f = made-fresh (Fresh c) (fresh-numbered c) replicas clients cells s in
-      let n : ℕ = (madeRack replicas clients cells) .sizes .replicas in
+      let n : ℕ = (madeRack replicas clients cells) .settings .replicas in
       let a = run-adds (Numbered n c) (λ (r : Rack). costOf n (partyAt r c) k) (resentBy c k) (requestsBy c k) (event-costs n c k) (madeRack replicas clients cells) allowance ws s
       (f .0) in
       (a .0, omega (arith, a .1, ap (λ (x : Party). costOf n x k) (f .1), fresh-cost n k h))
 
   -- Operation k of client c, ended or open or not yet started: its requests are what it costs where it stands, plus its resends.
   pub costs : (c k : ℕ) → 1 ≤ k
-      → totalOf (requestsBy c k) (madeRack replicas clients cells) allowance ws ≡ costOf ((madeRack replicas clients cells) .sizes .replicas)
+      → totalOf (requestsBy c k) (madeRack replicas clients cells) allowance ws ≡ costOf ((madeRack replicas clients cells) .settings .replicas)
       (partyAt (rackAfter replicas clients cells allowance ws) c) k + totalOf (resentBy c k) (madeRack replicas clients cells) allowance ws
   costs c k h = sym (ran c k h .1)
 
   -- A finished operation, whose end entry is in the record, has cost 2 requests per replica, plus its resends.
   pub two-per-replica : (c k : ℕ) → 1 ≤ k → k ≤ endsOf c (recordOf (rackAfter replicas clients cells allowance ws))
-      → totalOf (requestsBy c k) (madeRack replicas clients cells) allowance ws ≡ 2 * (madeRack replicas clients cells) .sizes .replicas + totalOf (resentBy c k)
+      → totalOf (requestsBy c k) (madeRack replicas clients cells) allowance ws ≡ 2 * (madeRack replicas clients cells) .settings .replicas + totalOf (resentBy c k)
       (madeRack replicas clients cells) allowance ws
   two-per-replica c k h l =
-      let e = ended-cost ((madeRack replicas clients cells) .sizes .replicas) (partyAt (rackAfter replicas clients cells allowance ws) c)
+      let e = ended-cost ((madeRack replicas clients cells) .settings .replicas) (partyAt (rackAfter replicas clients cells allowance ws) c)
       (endsOf c (recordOf (rackAfter replicas clients cells allowance ws))) k (ran c k h .0 .ends) l in
       omega (arith, costs c k h, e)
 
   -- The present operation of client c: 1 request per replica while it asks, 2 from then on, plus its resends.
   pub present : (c : ℕ) → 1 ≤ partyAt (rackAfter replicas clients cells allowance ws) c .op
       → totalOf (requestsBy c (partyAt (rackAfter replicas clients cells allowance ws) c .op)) (madeRack replicas clients cells) allowance ws
-      ≡ costIn ((madeRack replicas clients cells) .sizes .replicas) (partyAt (rackAfter replicas clients cells allowance ws) c .work) + totalOf
+      ≡ costIn ((madeRack replicas clients cells) .settings .replicas) (partyAt (rackAfter replicas clients cells allowance ws) c .work) + totalOf
       (resentBy c (partyAt (rackAfter replicas clients cells allowance ws) c .op)) (madeRack replicas clients cells) allowance ws
   present c h = omega (
     arith,
     costs c (partyAt (rackAfter replicas clients cells allowance ws) c .op) h,
-    present-cost ((madeRack replicas clients cells) .sizes .replicas) (partyAt (rackAfter replicas clients cells allowance ws) c),
+    present-cost ((madeRack replicas clients cells) .settings .replicas) (partyAt (rackAfter replicas clients cells allowance ws) c),
   )
 
   -- The operations that the record ends, and an open one, are the client's operation numbers.

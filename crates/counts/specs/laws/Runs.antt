@@ -13,7 +13,7 @@ use Rattle.method.specs.declared.Decision.the-variants.{No, Go}
 use Rattle.rack.specs.declared.Rack.{Rack}
 use Rattle.rack.specs.declared.Ran.{Ran}
 use Rattle.rack.specs.declared.Made.{Made}
-use Rattle.rack.specs.Sound.{sizesFit, soundOf}
+use Rattle.rack.specs.Sound.{settingsFit, soundOf}
 use Rattle.rack.specs.Run.{eventOf, decided, appliedOf, turn, ranOf, runFrom, runOf, freshRack, madeOf}
 use Rattle.rack.specs.Counts.{counted, countOver}
 use Rattle.runs.specs.laws.Steps.{sound-from, run-steps}
@@ -111,4 +111,4 @@ pub made-fresh : (P : Rack → Type 0) → ((replicas clients cells : ℕ) → P
     → P (madeOf replicas clients cells .rack)
 unfolding madeOf
 made-fresh P f replicas clients cells =
-    whichever (λ (m : Made). P (m .rack)) (sizesFit (record { replicas = replicas; clients = clients; cells = cells })) _ _ (f replicas clients cells) (f 1 1 1)
+    whichever (λ (m : Made). P (m .rack)) (settingsFit (record { replicas = replicas; clients = clients; cells = cells })) _ _ (f replicas clients cells) (f 1 1 1)

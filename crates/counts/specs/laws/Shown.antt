@@ -9,7 +9,7 @@ use Rattle.method.specs.Plan.{started, startIn, startOf, askOf, keepOf, current
 use Rattle.method.specs.Holding.{holds, lastEntry}
 use Rattle.method.specs.Plan.{deliverIn, deliverOf, ofSlot, planOf}
 use Rattle.rack.specs.Places.{freeAt, roomOf, sentOf, recordOf}
-use Rattle.rack.specs.Sound.{allBelow, sizesFit, pairFits, bodyFits, messageFits, heldFits, workFits, owes, owedBy, owedIn, owed, wireFits, pairsFit, partiesFit, recordFits}
+use Rattle.rack.specs.Sound.{allBelow, settingsFit, pairFits, bodyFits, messageFits, heldFits, workFits, owes, owedBy, owedIn, owed, wireFits, pairsFit, partiesFit, recordFits}
 use Rattle.rack.specs.Sound.{soundOf}
 use Rattle.method.specs.About.{clientIn, clientOf}
 use Rattle.rack.specs.Run.{freshRack, byte, eventOf, inRack, slotOf, placeIn, noted, freed, checked, decided, addressed, cleared, recorded, entriesIn, appliedOf, turn, runFrom}
@@ -21,7 +21,7 @@ use Rattle.counts.specs.Sheet.{CountLine}
 pub count-line : CountLine
 unfolding inUse copiedBy lostBy totalOf isRequest requestOf requestsBy endsBy endsOf recordOf setBits hasReplica withReplica majority asksEnough keepsEnough everyReplica within
     membersFrom ones countFrom firstFrom stampLess raised started startIn startOf askOf keepOf current keepsOf phaseEnds holds tellCounts tellIn tellOf lastEntry keptCounts keptIn
-    keptOf deliverIn deliverOf ofSlot planOf freeAt roomOf sentOf allBelow sizesFit pairFits bodyFits messageFits heldFits workFits owes owedBy owedIn owed wireFits pairsFit
+    keptOf deliverIn deliverOf ofSlot planOf freeAt roomOf sentOf allBelow settingsFit pairFits bodyFits messageFits heldFits workFits owes owedBy owedIn owed wireFits pairsFit
     partiesFit recordFits soundOf freshRack byte eventOf inRack slotOf clientIn placeIn clientOf noted freed checked decided addressed cleared recorded entriesIn appliedOf turn
     runFrom runOf signedOf sentBy deliveredBy counted countOver
 count-line = record { tally = refl; used = refl; ended = refl; requests = refl }

@@ -38,7 +38,7 @@ use Rattle.method.specs.declared.Decision.{Decision}
 use Rattle.method.specs.declared.Decision.the-variants.{No, Go}
 use Rattle.rack.specs.declared.Rack.{Rack}
 use Rattle.rack.specs.declared.Made.{Made}
-use Rattle.rack.specs.Sound.{sizesFit, soundOf}
+use Rattle.rack.specs.Sound.{settingsFit, soundOf}
 use Rattle.rack.specs.Run.{freshRack, madeOf, eventOf, decided, ranOf, turn, appliedOf, runFrom, runOf}
 use Rattle.rack.specs.laws.Refusals.{decided-refuses}
 use Rattle.runs.specs.laws.Steps.{run-steps}
@@ -133,7 +133,7 @@ verdict-fits s b (saysRefused k n) j =
 -- the maker refuses with 1, or not at all
 made-refusal : (x y z : ℕ) → madeOf x y z .refusal ≤ 1
 unfolding madeOf
-made-refusal x y z = go (sizesFit (record { replicas = x; clients = y; cells = z }))
+made-refusal x y z = go (settingsFit (record { replicas = x; clients = y; cells = z }))
   where
     go : (t : Bool) → cond {A = Made} t (record { refusal = 0; rack = freshRack x y z }) (record { refusal = 1; rack = freshRack 1 1 1 }) .refusal ≤ 1
     go true = omega arith

@@ -32,19 +32,19 @@ use Rattle.layout.specs.Plain.{plainParty}
 -- below 8 and cells below 16
 pub record Sayable (r : Rack) : Type 0 where
   pub power : r .power < 32768
-  pub ops : (i : ℕ) → i < r .sizes .clients → partyAt r i .op < 65536
-  pub works : (i : ℕ) → i < r .sizes .clients → workSmall (partyAt r i .work)
-  pub ranks : (k x : ℕ) → k < r .sizes .replicas → x < r .sizes .cells → pairAt r k x .stamp .rank < 256
+  pub ops : (i : ℕ) → i < r .settings .clients → partyAt r i .op < 65536
+  pub works : (i : ℕ) → i < r .settings .clients → workSmall (partyAt r i .work)
+  pub ranks : (k x : ℕ) → k < r .settings .replicas → x < r .settings .cells → pairAt r k x .stamp .rank < 256
   pub slots : (i : ℕ) → i < 256 → heldSmall (heldAt r i)
   pub entries : (i : ℕ) → i < r .count → entryFits (entryIn (r .lines) i)
 
 -- the rack q has the parts of the rack r
 pub record Again (r q : Rack) : Type 0 where
-  pub sizes : q .sizes ≡ r .sizes
+  pub sizes : q .settings ≡ r .settings
   pub power : q .power ≡ r .power
   pub count : q .count ≡ r .count
-  pub parties : (i : ℕ) → i < r .sizes .clients → partyAt q i ≡ plainParty (partyAt r i)
-  pub pairs : (k x : ℕ) → k < r .sizes .replicas → x < r .sizes .cells → pairAt q k x ≡ pairAt r k x
+  pub parties : (i : ℕ) → i < r .settings .clients → partyAt q i ≡ plainParty (partyAt r i)
+  pub pairs : (k x : ℕ) → k < r .settings .replicas → x < r .settings .cells → pairAt q k x ≡ pairAt r k x
   pub slots : (i : ℕ) → i < 256 → heldAt q i ≡ heldAt r i
   pub entries : (i : ℕ) → i < r .count → entryIn (q .lines) i ≡ entryIn (r .lines) i
 
@@ -64,7 +64,7 @@ module _ (r : Rack) (ws : List ℕ) (s : soundOf r ≡ true) (l : length ws ≡ 
 
   -- its first five words
   abbrev head : List ℕ
-  head = r .sizes .replicas ∷ r .sizes .clients ∷ r .sizes .cells ∷ r .power ∷ r .count ∷ []
+  head = r .settings .replicas ∷ r .settings .clients ∷ r .settings .cells ∷ r .power ∷ r .count ∷ []
 
   -- the words of client i
   abbrev parties : ℕ → List ℕ
@@ -72,7 +72,7 @@ module _ (r : Rack) (ws : List ℕ) (s : soundOf r ≡ true) (l : length ws ≡ 
 
   -- the words of the pair at place i, if the rack has it
   abbrev pairs : ℕ → List ℕ
-  pairs i = pairWritten (r .sizes .cells) i (getD (r .pairs) i freshPair)
+  pairs i = pairWritten (r .settings .cells) i (getD (r .pairs) i freshPair)
 
   -- the words of slot i
   abbrev slots : ℕ → List ℕ
@@ -86,7 +86,7 @@ module _ (r : Rack) (ws : List ℕ) (s : soundOf r ≡ true) (l : length ws ≡ 
   parties-apart i = omega (arith, party-long (partyAt r i))
 
   pairs-apart : (i : ℕ) → pairPlace i + length (pairs i) ≤ pairPlace (suc i)
-  pairs-apart i = omega (arith, written-long (r .sizes .cells) i (getD (r .pairs) i freshPair))
+  pairs-apart i = omega (arith, written-long (r .settings .cells) i (getD (r .pairs) i freshPair))
 
   slots-apart : (i : ℕ) → slotPlace i + length (slots i) ≤ slotPlace (suc i)
   slots-apart i = omega (arith, slot-long (heldAt r i))
@@ -100,11 +100,11 @@ module _ (r : Rack) (ws : List ℕ) (s : soundOf r ≡ true) (l : length ws ≡ 
 
   long-1 : length (partiesPut r (headOf r ws)) ≡ wordCount
   unfolding partiesPut
-  long-1 = first-long (r .sizes .clients) partyPlace parties (headOf r ws) ∙ long-0
+  long-1 = first-long (r .settings .clients) partyPlace parties (headOf r ws) ∙ long-0
 
   long-2 : length (pairsPut r (partiesPut r (headOf r ws))) ≡ wordCount
   unfolding pairsPut
-  long-2 = first-long (16 * r .sizes .replicas) pairPlace pairs (partiesPut r (headOf r ws)) ∙ long-1
+  long-2 = first-long (16 * r .settings .replicas) pairPlace pairs (partiesPut r (headOf r ws)) ∙ long-1
 
   long-3 : length (wirePut r (pairsPut r (partiesPut r (headOf r ws)))) ≡ wordCount
   unfolding wirePut
@@ -121,25 +121,25 @@ module _ (r : Rack) (ws : List ℕ) (s : soundOf r ≡ true) (l : length ws ≡ 
   before-pairs : (j : ℕ) → j < 85 → word (writtenOf r ws) j ≡ word (partiesPut r (headOf r ws)) j
   unfolding pairsPut
   before-pairs j h =
-      before-slots j (omega arith) ∙ parts-below pairPlace pairs pairs-apart (16 * r .sizes .replicas) (partiesPut r (headOf r ws)) j (omega arith)
+      before-slots j (omega arith) ∙ parts-below pairPlace pairs pairs-apart (16 * r .settings .replicas) (partiesPut r (headOf r ws)) j (omega arith)
 
   pub head-stands : Stands (writtenOf r ws) 0 head
   unfolding partiesPut headOf
   head-stands o h =
-      before-pairs (0 + o) (omega arith) ∙ parts-below partyPlace parties parties-apart (r .sizes .clients) (headOf r ws) (0 + o) (omega arith)
+      before-pairs (0 + o) (omega arith) ∙ parts-below partyPlace parties parties-apart (r .settings .clients) (headOf r ws) (0 + o) (omega arith)
       ∙ sets-stand head ws 0 (omega (arith, l)) o h
 
-  pub party-stands : (i : ℕ) → i < r .sizes .clients → Stands (writtenOf r ws) (partyPlace i) (parties i)
+  pub party-stands : (i : ℕ) → i < r .settings .clients → Stands (writtenOf r ws) (partyPlace i) (parties i)
   unfolding partiesPut
   party-stands i h o k =
-      before-pairs (partyPlace i + o) (omega (arith, party-long (partyAt r i), sound .sizes .clients))
-      ∙ parts-stand partyPlace parties parties-apart (r .sizes .clients) i (headOf r ws) h (omega (arith, long-0, sound .sizes .clients)) o k
+      before-pairs (partyPlace i + o) (omega (arith, party-long (partyAt r i), sound .settings .clients))
+      ∙ parts-stand partyPlace parties parties-apart (r .settings .clients) i (headOf r ws) h (omega (arith, long-0, sound .settings .clients)) o k
 
-  pub pair-stands : (i : ℕ) → i < 16 * r .sizes .replicas → Stands (writtenOf r ws) (pairPlace i) (pairs i)
+  pub pair-stands : (i : ℕ) → i < 16 * r .settings .replicas → Stands (writtenOf r ws) (pairPlace i) (pairs i)
   unfolding pairsPut
   pair-stands i h o k =
-      before-slots (pairPlace i + o) (omega (arith, written-long (r .sizes .cells) i (getD (r .pairs) i freshPair), sound .sizes .replicas))
-      ∙ parts-stand pairPlace pairs pairs-apart (16 * r .sizes .replicas) i (partiesPut r (headOf r ws)) h (omega (arith, long-1, sound .sizes .replicas)) o k
+      before-slots (pairPlace i + o) (omega (arith, written-long (r .settings .cells) i (getD (r .pairs) i freshPair), sound .settings .replicas))
+      ∙ parts-stand pairPlace pairs pairs-apart (16 * r .settings .replicas) i (partiesPut r (headOf r ws)) h (omega (arith, long-1, sound .settings .replicas)) o k
 
   pub slot-stands : (i : ℕ) → i < 256 → Stands (writtenOf r ws) (slotPlace i) (slots i)
   unfolding wirePut
@@ -157,22 +157,22 @@ module _ (r : Rack) (ws : List ℕ) (s : soundOf r ≡ true) (f : Sayable r) (l 
   again-power : word (writtenOf r ws) 3 ≡ r .power
   again-power = head-stands r ws s l 3 (omega arith)
 
-  again-sizes : rackOf (writtenOf r ws) .sizes ≡ r .sizes
+  again-sizes : rackOf (writtenOf r ws) .settings ≡ r .settings
   unfolding rackOf sizesIn byteOf
   again-sizes =
-      let z = sound-of r s .sizes in
-      let a : word (writtenOf r ws) 0 ≡ r .sizes .replicas = head-stands r ws s l 0 (omega arith) in
-      let b : word (writtenOf r ws) 1 ≡ r .sizes .clients = head-stands r ws s l 1 (omega arith) in
-      let c : word (writtenOf r ws) 2 ≡ r .sizes .cells = head-stands r ws s l 2 (omega arith) in
+      let z = sound-of r s .settings in
+      let a : word (writtenOf r ws) 0 ≡ r .settings .replicas = head-stands r ws s l 0 (omega arith) in
+      let b : word (writtenOf r ws) 1 ≡ r .settings .clients = head-stands r ws s l 1 (omega arith) in
+      let c : word (writtenOf r ws) 2 ≡ r .settings .cells = head-stands r ws s l 2 (omega arith) in
       rw (
         a,
         b,
         c,
         again-power,
         lt-ltb (r .power) 32768 (f .power),
-        lt-ltb (r .sizes .replicas) 256 (omega (arith, z .replicas)),
-        lt-ltb (r .sizes .clients) 256 (omega (arith, z .clients)),
-        lt-ltb (r .sizes .cells) 256 (omega (arith, z .cells)),
+        lt-ltb (r .settings .replicas) 256 (omega (arith, z .replicas)),
+        lt-ltb (r .settings .clients) 256 (omega (arith, z .clients)),
+        lt-ltb (r .settings .cells) 256 (omega (arith, z .cells)),
       )
 
   again-count : word (writtenOf r ws) 4 ≡ r .count
@@ -204,19 +204,19 @@ module _ (r : Rack) (ws : List ℕ) (s : soundOf r ≡ true) (f : Sayable r) (l 
       ap (λ (x : Line). x .entry) (a ∙ firsts-at (entryCount (writtenOf r ws)) i g none c
       ∙ line-again (writtenOf r ws) (entryPlace i) (entryIn (r .lines) i) (f .entries i h) (row-stands r ws s l i h))
 
-  party-at : (i : ℕ) → i < r .sizes .clients → partyAt (rackOf (writtenOf r ws)) i ≡ plainParty (partyAt r i)
+  party-at : (i : ℕ) → i < r .settings .clients → partyAt (rackOf (writtenOf r ws)) i ≡ plainParty (partyAt r i)
   unfolding rackOf
   party-at i h =
-      firsts-at 8 i (λ j. partyIn (writtenOf r ws) (partyPlace j)) idle (omega (arith, sound-of r s .sizes .clients))
+      firsts-at 8 i (λ j. partyIn (writtenOf r ws) (partyPlace j)) idle (omega (arith, sound-of r s .settings .clients))
       ∙ party-again (writtenOf r ws) (partyPlace i) (partyAt r i) (f .ops i h) (f .works i h) (party-stands r ws s l i h)
 
-  pair-at : (k x : ℕ) → k < r .sizes .replicas → x < r .sizes .cells → pairAt (rackOf (writtenOf r ws)) k x ≡ pairAt r k x
+  pair-at : (k x : ℕ) → k < r .settings .replicas → x < r .settings .cells → pairAt (rackOf (writtenOf r ws)) k x ≡ pairAt r k x
   unfolding rackOf pairWritten
   pair-at k x hk hx =
-      let z = sound-of r s .sizes in
+      let z = sound-of r s .settings in
       let m : (16 * k + x) % 16 ≡ x = omega (arith, z .cells) in
-      let t : ltb ((16 * k + x) % 16) (r .sizes .cells) ≡ true = rw m (lt-ltb x (r .sizes .cells) hx) in
-      let p : pairWritten (r .sizes .cells) (16 * k + x) (pairAt r k x) ≡ pairWords (pairAt r k x) = rw t in
+      let t : ltb ((16 * k + x) % 16) (r .settings .cells) ≡ true = rw m (lt-ltb x (r .settings .cells) hx) in
+      let p : pairWritten (r .settings .cells) (16 * k + x) (pairAt r k x) ≡ pairWords (pairAt r k x) = rw t in
       let q : Stands (writtenOf r ws) (pairPlace (16 * k + x)) (pairWords (pairAt r k x)) = rw (← p) (pair-stands r ws s l (16 * k + x) (omega (arith, z .cells))) in
       firsts-at 240 (16 * k + x) (λ j. pairIn (writtenOf r ws) (pairPlace j)) freshPair (omega (arith, z .replicas, z .cells))
       ∙ pair-again (writtenOf r ws) (pairPlace (16 * k + x)) (pairAt r k x) (f .ranks k x hk hx) q
@@ -236,4 +236,4 @@ module _ (r : Rack) (ws : List ℕ) (s : soundOf r ≡ true) (f : Sayable r) (l 
   counted = count-again
 
   pub written-again : Again r (rackOf (writtenOf r ws))
-  written-again = record { sizes = again-sizes; power = power-again; count = counted; parties = party-at; pairs = pair-at; slots = slot-at; entries = line-at }
+  written-again = record { settings = again-sizes; power = power-again; count = counted; parties = party-at; pairs = pair-at; slots = slot-at; entries = line-at }

@@ -6,7 +6,7 @@ use mathlib.Core.List.{List}
 use native.Mathlib.Omega.{arith}
 use lib.ListN.{length}
 use borrow.Author.Tests.{eq-eqb, ne-eqb, le-ltb}
-use Rattle.rack.specs.Sound.{sizesFit, soundOf}
+use Rattle.rack.specs.Sound.{settingsFit, soundOf}
 use Rattle.rack.specs.Run.{madeOf, runOf}
 use Rattle.layout.specs.declared.WordsAnswer.{WordsAnswer}
 use Rattle.layout.specs.Layout.{wordCount}
@@ -27,11 +27,11 @@ one-run ws n es a a′ e e′ p q = (p .0 ∙ sym (q .0), p .1 ∙ sym (q .1))
 
 -- sizes 16, 8, 16 are refused, and 15, 8, 16 are not
 pub not-made : (ws : List ℕ) (a : WordsAnswer) → length ws ≡ wordCount → a ≡ madeOutcome 16 8 16 ws .answer → a .refusal ≡ 0 → ⊥
-unfolding madeOutcome makes madeOf sizesFit
+unfolding madeOutcome makes madeOf settingsFit
 not-made ws a h p q = let e : a ≡ answerOf 0 1 = p ∙ rw (eq-eqb (length ws) wordCount h) in let r = ap (λ (k : WordsAnswer). k .refusal) e in omega arith
 
 pub not-refused : (ws : List ℕ) (a : WordsAnswer) → length ws ≡ wordCount → a ≡ madeOutcome 15 8 16 ws .answer → a .refusal ≡ 1 → ⊥
-unfolding madeOutcome makes madeOf sizesFit
+unfolding madeOutcome makes madeOf settingsFit
 not-refused ws a h p q = let e : a ≡ answerOf 0 0 = p ∙ rw (eq-eqb (length ws) wordCount h) in let r = ap (λ (k : WordsAnswer). k .refusal) e in omega arith
 
 -- with other lengths nothing is done, and with allowance 0 nothing is refused

@@ -7,7 +7,7 @@ use native.Mathlib.Omega.{arith}
 use lib.Dec.{ltb, eqb}
 use borrow.Author.Tests.{le-ltb, ltb-true, ltb-false}
 use Rattle.method.specs.declared.Party.{Party}
-use Rattle.rack.specs.declared.Sizes.{Sizes}
+use Rattle.rack.specs.declared.Settings.{Settings}
 use Rattle.rack.specs.declared.Slot.{Slot}
 use Rattle.rack.specs.Places.{empty, idle, partyAt, heldAt}
 use Rattle.rack.specs.Sound.{allBelow, heldFits, messageFits, workFits, owed, soundOf}
@@ -21,11 +21,11 @@ use Rattle.layout.specs.State.{State, partyKnownAt, slotKnownAt}
 
 -- ---- what is not known doesn't fit
 
-stray-party : (z : Sizes) (ws : List ℕ) (at : ℕ) → z .cells ≤ 16 → partyKnownAt ws at ≡ false → workFits z (partyIn ws at .work) ≡ false
+stray-party : (z : Settings) (ws : List ℕ) (at : ℕ) → z .cells ≤ 16 → partyKnownAt ws at ≡ false → workFits z (partyIn ws at .work) ≡ false
 unfolding partyIn workFits
 stray-party z ws at h e = rw (e, le-ltb 255 (z .cells) (omega arith))
 
-stray-slot : (z : Sizes) (ws : List ℕ) (at : ℕ) → z .clients ≤ 8 → slotKnownAt ws at ≡ false → heldFits z (heldOf ws at) ≡ false
+stray-slot : (z : Settings) (ws : List ℕ) (at : ℕ) → z .clients ≤ 8 → slotKnownAt ws at ≡ false → heldFits z (heldOf ws at) ≡ false
 unfolding heldOf heldFits messageFits
 stray-slot z ws at h e = go (eqb (word ws at) 0) refl (messageKnown (word ws at) (word ws (at + 1)) (word ws (at + 5))) refl
   where
@@ -42,21 +42,21 @@ module _ (ws : List ℕ) (s : soundOf (rackOf ws) ≡ true) where
 
   known-power : word ws 3 < 32768
   unfolding rackOf sizesIn
-  known-power = go (ltb (word ws 3) 32768) refl (sound .sizes .replicas)
+  known-power = go (ltb (word ws 3) 32768) refl (sound .settings .replicas)
     where
       go : (t : Bool) → ltb (word ws 3) 32768 ≡ t → cond t (byteOf (word ws 0)) 255 ≤ 15 → word ws 3 < 32768
       go true e h = ltb-true (word ws 3) 32768 e
       go false e h = absurd (omega arith)
 
-  known-party : (i : ℕ) → i < rackOf ws .sizes .clients → partyKnownAt ws (partyPlace i) ≡ true
+  known-party : (i : ℕ) → i < rackOf ws .settings .clients → partyKnownAt ws (partyPlace i) ≡ true
   unfolding rackOf
   known-party i h = go (partyKnownAt ws (partyPlace i)) refl
     where
       go : (t : Bool) → partyKnownAt ws (partyPlace i) ≡ t → partyKnownAt ws (partyPlace i) ≡ true
       go true e = e
       go false e =
-          let p : partyAt (rackOf ws) i ≡ partyIn ws (partyPlace i) = firsts-at 8 i (λ j. partyIn ws (partyPlace j)) idle (omega (arith, sound .sizes .clients)) in
-          never (sym (stray-party (rackOf ws .sizes) ws (partyPlace i) (sound .sizes .cells) e) ∙ ap (λ (q : Party). workFits (rackOf ws .sizes) (q .work)) (sym p)
+          let p : partyAt (rackOf ws) i ≡ partyIn ws (partyPlace i) = firsts-at 8 i (λ j. partyIn ws (partyPlace j)) idle (omega (arith, sound .settings .clients)) in
+          never (sym (stray-party (rackOf ws .settings) ws (partyPlace i) (sound .settings .cells) e) ∙ ap (λ (q : Party). workFits (rackOf ws .settings) (q .work)) (sym p)
           ∙ sound .parties i h)
 
   known-slot : (i : ℕ) → i < 256 → slotKnownAt ws (slotPlace i) ≡ true
@@ -67,7 +67,7 @@ module _ (ws : List ℕ) (s : soundOf (rackOf ws) ≡ true) where
       go true e = e
       go false e =
           let p : heldAt (rackOf ws) i ≡ heldOf ws (slotPlace i) = ap (λ (q : Slot). q .held) (firsts-at 256 i (λ j. slotIn ws (slotPlace j)) empty h) in
-          never (sym (stray-slot (rackOf ws .sizes) ws (slotPlace i) (sound .sizes .clients) e) ∙ ap (heldFits (rackOf ws .sizes)) (sym p) ∙ sound .slots i h)
+          never (sym (stray-slot (rackOf ws .settings) ws (slotPlace i) (sound .settings .clients) e) ∙ ap (heldFits (rackOf ws .settings)) (sym p) ∙ sound .slots i h)
 
   few : countIn ws ≤ 2048
   unfolding rackOf

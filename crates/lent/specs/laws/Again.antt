@@ -8,7 +8,7 @@ use lib.ListN.{length, replicate, length-replicate}
 use borrow.Author.Tests.{eq-eqb, eqb-true, eqb-false}
 use Rattle.rack.specs.declared.Rack.{Rack}
 use Rattle.rack.specs.declared.Ran.{Ran}
-use Rattle.rack.specs.Sound.{sizesFit, soundOf}
+use Rattle.rack.specs.Sound.{settingsFit, soundOf}
 use Rattle.rack.specs.laws.SoundLaws.{sized}
 use Rattle.rack.specs.laws.Fresh.{fresh-sound}
 use Rattle.rack.specs.Run.{freshRack, madeOf, ranOf, runFrom, runOf}
@@ -30,7 +30,7 @@ blank-words zero j = refl
 blank-words (suc n) zero = refl
 blank-words (suc n) (suc j) = blank-words n j
 
-fresh-again : (replicas clients cells : ℕ) → sizesFit (record { replicas = replicas; clients = clients; cells = cells }) ≡ true
+fresh-again : (replicas clients cells : ℕ) → settingsFit (record { replicas = replicas; clients = clients; cells = cells }) ≡ true
     → (ws : List ℕ) → ((j : ℕ) → word ws j ≡ 0) → length ws ≡ wordCount → rackOf (writtenOf (freshRack replicas clients cells) ws) ≡ freshRack replicas clients cells
 fresh-again replicas clients cells e ws h l =
     let r : Rack = freshRack replicas clients cells in
@@ -41,7 +41,7 @@ fresh-again replicas clients cells e ws h l =
 -- the rack that was made stands in the words, also beside a refusal
 pub made-reads-again : (replicas clients cells : ℕ) (ws : List ℕ) → length ws ≡ wordCount
     → rackOf (madeOutcome replicas clients cells ws .lent) ≡ madeOf replicas clients cells .rack
-unfolding madeOutcome makes sizesFit
+unfolding madeOutcome makes settingsFit
 made-reads-again replicas clients cells ws h =
     rw (eq-eqb (length ws) wordCount h)
     (made-fresh (λ (r : Rack). rackOf (writtenOf r (replicate wordCount 0)) ≡ r) replicas clients cells

@@ -38,7 +38,7 @@ use Rattle.method.specs.Plan.{startIn, startOf, askOf, keepOf, current, keepsOf
 use Rattle.method.specs.Holding.{holds}
 use Rattle.method.specs.Plan.{resendIn, resendOf, stopOf, powered, offOf, onOf, ofSlot, planOf}
 use Rattle.method.specs.About.{clientOf}
-use Rattle.rack.specs.declared.Sizes.{Sizes}
+use Rattle.rack.specs.declared.Settings.{Settings}
 use Rattle.rack.specs.declared.Rack.{Rack}
 use Rattle.rack.specs.Places.{idle, partyAt, heldAt, roomOf, sentOf}
 use Rattle.rack.specs.Sound.{pairFits, workFits, owes, owedBy, owedIn, owed, soundOf}
@@ -152,9 +152,9 @@ below-plain (suc n) r = ap₂ (λ (a b : ℕ). a + b) (below-plain n r) (ap owed
 
 all-owed : (r : Rack) → owed (plainRack r) ≡ owed r
 unfolding owed plainRack
-all-owed r = below-plain (r .sizes .clients) r
+all-owed r = below-plain (r .settings .clients) r
 
-work-plain : (z : Sizes) (w : Work) → workFits z (plain w) ≡ workFits z w
+work-plain : (z : Settings) (w : Work) → workFits z (plain w) ≡ workFits z w
 unfolding workFits
 work-plain z Idle = refl
 work-plain z (Asking cell goal set held) = go (eqb set 0)
@@ -165,16 +165,16 @@ work-plain z (Asking cell goal set held) = go (eqb set 0)
     go false = refl
 work-plain z (Keeping cell goal set held) = refl
 
-parties-fit : (r : Rack) (i : ℕ) → workFits (r .sizes) (partyAt (plainRack r) i .work) ≡ workFits (r .sizes) (partyAt r i .work)
+parties-fit : (r : Rack) (i : ℕ) → workFits (r .settings) (partyAt (plainRack r) i .work) ≡ workFits (r .settings) (partyAt r i .work)
 unfolding plainRack
-parties-fit r i = ap (λ (p : Party). workFits (r .sizes) (p .work)) (party-plain (r .parties) i) ∙ work-plain (r .sizes) (partyAt r i .work)
+parties-fit r i = ap (λ (p : Party). workFits (r .settings) (p .work)) (party-plain (r .parties) i) ∙ work-plain (r .settings) (partyAt r i .work)
 
 sound-plain : (r : Rack) → soundOf r ≡ true → soundOf (plainRack r) ≡ true
 unfolding plainRack
 sound-plain r h =
     let s : Sound r = sound-of r h in
     of-sound (plainRack r) (record {
-      sizes = s .sizes;
+      settings = s .settings;
       slots = s .slots;
       pairs = s .pairs;
       parties = λ i l. parties-fit r i ∙ s .parties i l;
@@ -186,7 +186,7 @@ unfolding plainRack
 plain-sound r h =
     let s : Sound (plainRack r) = sound-of (plainRack r) h in
     of-sound r (record {
-      sizes = s .sizes;
+      settings = s .settings;
       slots = s .slots;
       pairs = s .pairs;
       parties = λ i l. sym (parties-fit r i) ∙ s .parties i l;
@@ -219,8 +219,8 @@ checked-plain (Go p) taken room =
 abbrev decidedBy : Rack → Event → Party → ℕ → Decision
 decidedBy r e party owes =
     let held = heldAt r (slotOf e) in
-    cond (inRack (r .sizes) e)
-    (checked (planOf (record { replicas = r .sizes .replicas; power = r .power; party = party; pair = getD (r .pairs) (placeIn held) freshPair }) held e)
+    cond (inRack (r .settings) e)
+    (checked (planOf (record { replicas = r .settings .replicas; power = r .power; party = party; pair = getD (r .pairs) (placeIn held) freshPair }) held e)
     (r .count + owes) (roomOf (r .wire)))
     (No 3)
 
@@ -230,10 +230,10 @@ decided-plain r e =
     let k : ℕ = clientOf e (heldAt r (slotOf e)) in
     let p : Party = partyAt r k in
     ap₂ (λ (x : Party) (n : ℕ). plainDecision (decidedBy r e x n)) (party-plain (r .parties) k) (all-owed r)
-    ∙ both (inRack (r .sizes) e) _ _ _ _
+    ∙ both (inRack (r .settings) e) _ _ _ _
     (checked-plain _ (r .count + owed r) (roomOf (r .wire))
     ∙ ap (λ (o : Decision). checked o (r .count + owed r) (roomOf (r .wire)))
-    (plan-plain (r .sizes .replicas) (r .power) (getD (r .pairs) (placeIn (heldAt r (slotOf e))) freshPair) (p .stopped) (p .op) (heldAt r (slotOf e)) e (p .work))
+    (plan-plain (r .settings .replicas) (r .power) (getD (r .pairs) (placeIn (heldAt r (slotOf e))) freshPair) (p .stopped) (p .op) (heldAt r (slotOf e)) e (p .work))
     ∙ sym (checked-plain _ (r .count + owed r) (roomOf (r .wire))))
     refl
 
@@ -258,12 +258,12 @@ applied-plain r e p =
     ∙ ap₂ (λ (l : List Party) (x : Party). set l k x) (map-twice (r .parties)) (plain-twice (p .party))
     ∙ sym (map-set plainParty (r .parties) k (p .party)) in
     λ j. record {
-      sizes = r .sizes;
+      settings = r .settings;
       power = p .power;
       count = r .count + entriesIn (p .note);
       parties = m j;
       pairs = set (r .pairs) (placeIn (heldAt r (slotOf e))) (p .pair);
-      wire = sentOf (cleared (p .clear) (slotOf e) (r .wire)) (addressed (p .message) (membersOf (r .sizes .replicas) (p .to)));
+      wire = sentOf (cleared (p .clear) (slotOf e) (r .wire)) (addressed (p .message) (membersOf (r .settings .replicas) (p .to)));
       lines = recorded (p .note) (r .count) (r .lines);
     }
 

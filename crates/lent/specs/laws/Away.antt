@@ -48,8 +48,8 @@ parts-beside (suc n) place f d j h =
 -- place j is none where a part of the rack r is written
 pub record Away (r : Rack) (j : ℕ) : Type 0 where
   pub head : 5 ≤ j
-  pub parties : (i : ℕ) → i < r .sizes .clients → Beside (partyPlace i) 10 j
-  pub pairs : (i : ℕ) → i < 16 * r .sizes .replicas → i % 16 < r .sizes .cells → Beside (pairPlace i) 3 j
+  pub parties : (i : ℕ) → i < r .settings .clients → Beside (partyPlace i) 10 j
+  pub pairs : (i : ℕ) → i < 16 * r .settings .replicas → i % 16 < r .settings .cells → Beside (pairPlace i) 3 j
   pub slots : (i : ℕ) → i < 256 → Beside (slotPlace i) 9 j
   pub rows : (i : ℕ) → i < r .count → Beside (entryPlace i) 4 j
 
@@ -67,7 +67,7 @@ unfolding writtenOf recordPut wirePut pairsPut partiesPut headOf
 away-stays r ws j a =
     parts-beside (r .count) entryPlace (λ i. rowOf (entryIn (r .lines) i)) _ j (λ i h k. (let b = a .rows i h k in omega (arith, row-length (entryIn (r .lines) i))))
     ∙ parts-beside slotLimit slotPlace (λ i. slotWords (heldAt r i)) _ j (λ i h k. (let b = a .slots i h k in omega (arith, slot-long (heldAt r i))))
-    ∙ parts-beside (16 * r .sizes .replicas) pairPlace (λ i. pairWritten (r .sizes .cells) i (getD (r .pairs) i freshPair)) _ j
-    (λ i h. pair-beside (r .sizes .cells) i (getD (r .pairs) i freshPair) j (a .pairs i h))
-    ∙ parts-beside (r .sizes .clients) partyPlace (λ i. partyWords (partyAt r i)) _ j (λ i h k. (let b = a .parties i h k in omega (arith, party-long (partyAt r i))))
-    ∙ sets-beside (r .sizes .replicas ∷ r .sizes .clients ∷ r .sizes .cells ∷ r .power ∷ r .count ∷ []) ws 0 j (λ k. a .head)
+    ∙ parts-beside (16 * r .settings .replicas) pairPlace (λ i. pairWritten (r .settings .cells) i (getD (r .pairs) i freshPair)) _ j
+    (λ i h. pair-beside (r .settings .cells) i (getD (r .pairs) i freshPair) j (a .pairs i h))
+    ∙ parts-beside (r .settings .clients) partyPlace (λ i. partyWords (partyAt r i)) _ j (λ i h k. (let b = a .parties i h k in omega (arith, party-long (partyAt r i))))
+    ∙ sets-beside (r .settings .replicas ∷ r .settings .clients ∷ r .settings .cells ∷ r .power ∷ r .count ∷ []) ws 0 j (λ k. a .head)

@@ -43,9 +43,9 @@ unfolding writtenOf recordPut wirePut pairsPut partiesPut headOf
 written-long r ws =
     first-long (r .count) entryPlace (λ i. rowOf (entryIn (r .lines) i)) _
     ∙ first-long slotLimit slotPlace (λ i. slotWords (heldAt r i)) _
-    ∙ first-long (16 * r .sizes .replicas) pairPlace (λ i. pairWritten (r .sizes .cells) i (getD (r .pairs) i freshPair)) _
-    ∙ first-long (r .sizes .clients) partyPlace (λ i. partyWords (partyAt r i)) _
-    ∙ length-sets ws 0 (r .sizes .replicas ∷ r .sizes .clients ∷ r .sizes .cells ∷ r .power ∷ r .count ∷ [])
+    ∙ first-long (16 * r .settings .replicas) pairPlace (λ i. pairWritten (r .settings .cells) i (getD (r .pairs) i freshPair)) _
+    ∙ first-long (r .settings .clients) partyPlace (λ i. partyWords (partyAt r i)) _
+    ∙ length-sets ws 0 (r .settings .replicas ∷ r .settings .clients ∷ r .settings .cells ∷ r .power ∷ r .count ∷ [])
 
 pub made-long : (replicas clients cells : ℕ) (ws : List ℕ) → length (madeOutcome replicas clients cells ws .lent) ≡ length ws
 unfolding madeOutcome makes

@@ -11,7 +11,7 @@ use Rattle.rack.specs.declared.Rack.{Rack}
 use Rattle.rack.specs.declared.Made.{Made}
 use Rattle.rack.specs.declared.Ran.{Ran}
 use Rattle.rack.specs.Places.{slotLimit, partyAt, heldAt, recordOf}
-use Rattle.rack.specs.Sound.{sizesFit}
+use Rattle.rack.specs.Sound.{settingsFit}
 use Rattle.rack.specs.laws.Fresh.{made-sound}
 use Rattle.rack.specs.Run.{freshRack, madeOf, ranOf, runOf}
 use Rattle.promise.specs.Reached.{Reached}
@@ -33,11 +33,11 @@ headLines q = field doneStart (q .done) ++ (lineFeed ++ (refusedWord ++ (refusal
 
 -- the lines of the replicas
 abbrev replicaLines : Rack → List ℕ
-replicaLines r = eachBelow (r .sizes .replicas) (λ k. replicaLine r k)
+replicaLines r = eachBelow (r .settings .replicas) (λ k. replicaLine r k)
 
 -- those of the clients
 abbrev clientLines : Rack → List ℕ
-clientLines r = eachBelow (r .sizes .clients) (λ i. clientLine i (partyAt r i))
+clientLines r = eachBelow (r .settings .clients) (λ i. clientLine i (partyAt r i))
 
 -- those of the slots
 abbrev slotLines : Rack → List ℕ
@@ -45,14 +45,14 @@ slotLines r = eachBelow slotLimit (λ i. slotLine i (heldAt r i))
 
 -- the lines of a run but the last
 abbrev linesBefore : Ran → List ℕ
-linesBefore q = headLines q ++ (sizesLine (q .rack .sizes) ++ (replicaLines (q .rack) ++ (clientLines (q .rack) ++ slotLines (q .rack))))
+linesBefore q = headLines q ++ (sizesLine (q .rack .settings) ++ (replicaLines (q .rack) ++ (clientLines (q .rack) ++ slotLines (q .rack))))
 
 regroup : (a b c d e f : List ℕ) → a ++ (b ++ (c ++ (d ++ (e ++ f)))) ≡ (a ++ (b ++ (c ++ (d ++ e)))) ++ f
 regroup a b c d e f = simp append-assoc
 
 last-line : (q : Ran) → ranText q ≡ linesBefore q ++ recordLine (q .rack)
 unfolding ranText
-last-line q = regroup (headLines q) (sizesLine (q .rack .sizes)) (replicaLines (q .rack)) (clientLines (q .rack)) (slotLines (q .rack)) (recordLine (q .rack))
+last-line q = regroup (headLines q) (sizesLine (q .rack .settings)) (replicaLines (q .rack)) (clientLines (q .rack)) (slotLines (q .rack)) (recordLine (q .rack))
 
 -- the rack that a script leaves was reached by a run, and its clients agree with its record
 module _ (s : List ℕ) (bytes : Bytes s) (replicas clients cells allowance first : ℕ) where
@@ -104,7 +104,7 @@ drill-lawful s replicas clients cells allowance first bytes h =
     }
 
 -- A refused maker: no event is done, the refusal is 1, and the rack is the fresh one of sizes 1, 1, 1, whose record is empty.
-pub drill-refused : (s : List ℕ) (replicas clients cells allowance first : ℕ) → sizesFit (record { replicas = replicas; clients = clients; cells = cells }) ≡ false
+pub drill-refused : (s : List ℕ) (replicas clients cells allowance first : ℕ) → settingsFit (record { replicas = replicas; clients = clients; cells = cells }) ≡ false
     → playedOf s replicas clients cells allowance first ≡ ranOf 0 1 (freshRack 1 1 1)
 unfolding playedOf madeOf
 drill-refused s replicas clients cells allowance first h = rw h

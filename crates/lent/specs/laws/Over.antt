@@ -14,7 +14,7 @@ use Rattle.stamps.specs.Stamp.{freshPair}
 use Rattle.method.specs.declared.Work.{Work}
 use Rattle.method.specs.declared.Work.the-variants.{Idle, Asking, Keeping}
 use Rattle.method.specs.declared.Party.{Party}
-use Rattle.rack.specs.declared.Sizes.{Sizes}
+use Rattle.rack.specs.declared.Settings.{Settings}
 use Rattle.rack.specs.declared.Rack.{Rack}
 use Rattle.rack.specs.Places.{idle, partyAt, heldAt}
 use Rattle.rack.specs.Sound.{soundOf}
@@ -55,7 +55,7 @@ written-plain : (r : Rack) (ws : List ℕ) → writtenOf (plainRack r) ws ≡ wr
 unfolding writtenOf plainRack recordPut wirePut pairsPut partiesPut headOf
 written-plain r ws =
     ap (λ (d : List ℕ). recordPut r (wirePut r (pairsPut r d)))
-    (parts-same (r .sizes .clients) partyPlace (λ i. partyWords (getD (map plainParty (r .parties)) i idle)) (λ i. partyWords (partyAt r i)) (headOf r ws)
+    (parts-same (r .settings .clients) partyPlace (λ i. partyWords (getD (map plainParty (r .parties)) i idle)) (λ i. partyWords (partyAt r i)) (headOf r ws)
     (λ i. ap partyWords (List·getD-map plainParty (r .parties) i idle) ∙ party-words-plain (partyAt r i)))
 
 pub written-alike : (r q : Rack) (ws : List ℕ) → plainRack r ≡ plainRack q → writtenOf r ws ≡ writtenOf q ws
@@ -67,7 +67,7 @@ written-alike r q ws h = sym (written-plain r ws) ∙ ap (λ (x : Rack). written
 both-stand : (a b xs : List ℕ) (at o j : ℕ) → j ≡ at + o → o < length xs → Stands a at xs → Stands b at xs → word a j ≡ word b j
 both-stand a b xs at o j e h sa sb = rw e (sa o h ∙ sym (sb o h))
 
-module _ (r q : Rack) (ws : List ℕ) (s : soundOf q ≡ true) (l : length ws ≡ wordCount) (z : r .sizes ≡ q .sizes) (few : r .count ≤ q .count) where
+module _ (r q : Rack) (ws : List ℕ) (s : soundOf q ≡ true) (l : length ws ≡ wordCount) (z : r .settings ≡ q .settings) (few : r .count ≤ q .count) where
   -- the words with r written, and q over it
   abbrev over : List ℕ
   over = writtenOf q (writtenOf r ws)
@@ -84,8 +84,8 @@ module _ (r q : Rack) (ws : List ℕ) (s : soundOf q ≡ true) (l : length ws �
       away-stays q (writtenOf r ws) j a
       ∙ away-stays r ws j (record {
         head = a .head;
-        parties = λ i h. a .parties i (omega (arith, ap (λ (x : Sizes). x .clients) z));
-        pairs = λ i h k. a .pairs i (omega (arith, ap (λ (x : Sizes). x .replicas) z)) (omega (arith, ap (λ (x : Sizes). x .cells) z));
+        parties = λ i h. a .parties i (omega (arith, ap (λ (x : Settings). x .clients) z));
+        pairs = λ i h k. a .pairs i (omega (arith, ap (λ (x : Settings). x .replicas) z)) (omega (arith, ap (λ (x : Settings). x .cells) z));
         slots = a .slots;
         rows = λ i h. a .rows i (omega arith);
       })
@@ -93,20 +93,20 @@ module _ (r q : Rack) (ws : List ℕ) (s : soundOf q ≡ true) (l : length ws �
 
   in-head : (j : ℕ) → j < 5 → word over j ≡ word alone j
   in-head j h =
-      both-stand over alone (q .sizes .replicas ∷ q .sizes .clients ∷ q .sizes .cells ∷ q .power ∷ q .count ∷ []) 0 j j (omega arith) h
+      both-stand over alone (q .settings .replicas ∷ q .settings .clients ∷ q .settings .cells ∷ q .power ∷ q .count ∷ []) 0 j j (omega arith) h
       (head-stands q (writtenOf r ws) s long) (head-stands q ws s l)
 
   in-parties : (j : ℕ) → 5 ≤ j → j < 85 → word over j ≡ word alone j
-  in-parties j h k = go (ltb ((j - 5) / 10) (q .sizes .clients)) refl
+  in-parties j h k = go (ltb ((j - 5) / 10) (q .settings .clients)) refl
     where
-      go : (t : Bool) → ltb ((j - 5) / 10) (q .sizes .clients) ≡ t → word over j ≡ word alone j
+      go : (t : Bool) → ltb ((j - 5) / 10) (q .settings .clients) ≡ t → word over j ≡ word alone j
       go true e =
           let i : ℕ = (j - 5) / 10 in
-          let u : i < q .sizes .clients = ltb-true ((j - 5) / 10) (q .sizes .clients) e in
+          let u : i < q .settings .clients = ltb-true ((j - 5) / 10) (q .settings .clients) e in
           both-stand over alone (partyWords (partyAt q i)) (partyPlace i) ((j - 5) % 10) j (omega arith) (omega (arith, party-long (partyAt q i)))
           (party-stands q (writtenOf r ws) s long i u) (party-stands q ws s l i u)
       go false e =
-          let u : q .sizes .clients ≤ (j - 5) / 10 = ltb-false ((j - 5) / 10) (q .sizes .clients) e in
+          let u : q .settings .clients ≤ (j - 5) / 10 = ltb-false ((j - 5) / 10) (q .settings .clients) e in
           away j (record {
             head = h;
             parties = λ i m n. omega arith;
@@ -117,33 +117,33 @@ module _ (r q : Rack) (ws : List ℕ) (s : soundOf q ≡ true) (l : length ws �
 
   in-pairs : (j : ℕ) → 85 ≤ j → j < 805 → word over j ≡ word alone j
   unfolding pairWritten
-  in-pairs j h k = go (ltb ((j - 85) / 3) (16 * q .sizes .replicas)) refl (ltb ((j - 85) / 3 % 16) (q .sizes .cells)) refl
+  in-pairs j h k = go (ltb ((j - 85) / 3) (16 * q .settings .replicas)) refl (ltb ((j - 85) / 3 % 16) (q .settings .cells)) refl
     where
-      aside : ((j - 85) / 3 < 16 * q .sizes .replicas → q .sizes .cells ≤ (j - 85) / 3 % 16) → word over j ≡ word alone j
+      aside : ((j - 85) / 3 < 16 * q .settings .replicas → q .settings .cells ≤ (j - 85) / 3 % 16) → word over j ≡ word alone j
       aside f = away j (record {
         head = omega arith;
-        parties = λ i m n. omega (arith, sound-of q s .sizes .clients);
+        parties = λ i m n. omega (arith, sound-of q s .settings .clients);
         pairs = λ i m n o. apart i m n o (eqb i ((j - 85) / 3)) refl;
         slots = λ i m n. omega arith;
         rows = λ i m n. omega arith;
       })
         where
-          apart : (i : ℕ) → i < 16 * q .sizes .replicas → i % 16 < q .sizes .cells → pairPlace i ≤ j → (t : Bool) → eqb i ((j - 85) / 3) ≡ t → pairPlace i + 3 ≤ j
+          apart : (i : ℕ) → i < 16 * q .settings .replicas → i % 16 < q .settings .cells → pairPlace i ≤ j → (t : Bool) → eqb i ((j - 85) / 3) ≡ t → pairPlace i + 3 ≤ j
           apart i m n o true e =
               let a : i ≡ (j - 85) / 3 = eqb-true i ((j - 85) / 3) e in
-              let b : q .sizes .cells ≤ (j - 85) / 3 % 16 = f (omega arith) in
+              let b : q .settings .cells ≤ (j - 85) / 3 % 16 = f (omega arith) in
               absurd (let c : i % 16 ≡ (j - 85) / 3 % 16 = ap (λ (y : ℕ). y % 16) a in omega arith)
           apart i m n o false e = let a : i ≡ (j - 85) / 3 → ⊥ = eqb-false i ((j - 85) / 3) e in omega (arith, a)
 
-      go : (t : Bool) → ltb ((j - 85) / 3) (16 * q .sizes .replicas) ≡ t → (v : Bool) → ltb ((j - 85) / 3 % 16) (q .sizes .cells) ≡ v → word over j ≡ word alone j
+      go : (t : Bool) → ltb ((j - 85) / 3) (16 * q .settings .replicas) ≡ t → (v : Bool) → ltb ((j - 85) / 3 % 16) (q .settings .cells) ≡ v → word over j ≡ word alone j
       go true e true f =
           let i : ℕ = (j - 85) / 3 in
-          let u : i < 16 * q .sizes .replicas = ltb-true ((j - 85) / 3) (16 * q .sizes .replicas) e in
-          let w : length (pairWritten (q .sizes .cells) i (getD (q .pairs) i freshPair)) ≡ 3 = rw f (pair-long (getD (q .pairs) i freshPair)) in
-          both-stand over alone (pairWritten (q .sizes .cells) i (getD (q .pairs) i freshPair)) (pairPlace i) ((j - 85) % 3) j (omega arith) (omega arith)
+          let u : i < 16 * q .settings .replicas = ltb-true ((j - 85) / 3) (16 * q .settings .replicas) e in
+          let w : length (pairWritten (q .settings .cells) i (getD (q .pairs) i freshPair)) ≡ 3 = rw f (pair-long (getD (q .pairs) i freshPair)) in
+          both-stand over alone (pairWritten (q .settings .cells) i (getD (q .pairs) i freshPair)) (pairPlace i) ((j - 85) % 3) j (omega arith) (omega arith)
           (pair-stands q (writtenOf r ws) s long i u) (pair-stands q ws s l i u)
-      go true e false f = aside (λ m. ltb-false ((j - 85) / 3 % 16) (q .sizes .cells) f)
-      go false e v f = aside (λ m. absurd (omega (arith, ltb-false ((j - 85) / 3) (16 * q .sizes .replicas) e)))
+      go true e false f = aside (λ m. ltb-false ((j - 85) / 3 % 16) (q .settings .cells) f)
+      go false e v f = aside (λ m. absurd (omega (arith, ltb-false ((j - 85) / 3) (16 * q .settings .replicas) e)))
 
   in-slots : (j : ℕ) → 805 ≤ j → j < 3109 → word over j ≡ word alone j
   in-slots j h k =
@@ -165,8 +165,8 @@ module _ (r q : Rack) (ws : List ℕ) (s : soundOf q ≡ true) (l : length ws �
           let u : q .count ≤ (j - 3109) / 4 = ltb-false ((j - 3109) / 4) (q .count) e in
           away j (record {
             head = omega arith;
-            parties = λ i m n. omega (arith, sound-of q s .sizes .clients);
-            pairs = λ i m n o. omega (arith, sound-of q s .sizes .replicas);
+            parties = λ i m n. omega (arith, sound-of q s .settings .clients);
+            pairs = λ i m n o. omega (arith, sound-of q s .settings .replicas);
             slots = λ i m n. omega arith;
             rows = λ i m n. omega arith;
           })

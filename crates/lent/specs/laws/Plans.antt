@@ -36,7 +36,7 @@ use Rattle.method.specs.Plan.{usedUp, answered, started, startIn, startOf, askO
 use Rattle.method.specs.Holding.{holds, lastEntry}
 use Rattle.method.specs.Plan.{keptCounts, keptIn, keptOf, deliverIn, deliverOf, copyOf, resendIn, resendOf, stopOf, powered, offOf, onOf, ofSlot, planOf}
 use Rattle.method.specs.laws.Tests.{either, never, and-left, and-right}
-use Rattle.rack.specs.declared.Sizes.{Sizes}
+use Rattle.rack.specs.declared.Settings.{Settings}
 use Rattle.rack.specs.Sound.{pairFits, bodyFits, heldFits}
 use Rattle.rack.specs.Run.{inRack}
 use Rattle.rack.specs.laws.SoundLaws.{Sized, Named, named}
@@ -78,7 +78,7 @@ DecisionStays before (Go p) = PlanStays before p
 
 -- ---- ranks and sets
 
-pub rank-below : (z : Sizes) (p : Pair) → Sized z → pairFits z p ≡ true → p .stamp .rank < 256
+pub rank-below : (z : Settings) (p : Pair) → Sized z → pairFits z p ≡ true → p .stamp .rank < 256
 unfolding pairFits
 rank-below z p n h = omega (arith, ltb-true (p .stamp .rank) (z .clients) h, n .clients)
 
@@ -107,7 +107,7 @@ told-plain cell goal set k held h =
 
 -- ---- an event's outcome
 
-module _ (z : Sizes) (n : Sized z) (power : ℕ) (on : power < 32768) (party : Party) (pair : Pair) (small : party .op < 65536) (rank : RankSmall (party .work)) where
+module _ (z : Settings) (n : Sized z) (power : ℕ) (on : power < 32768) (party : Party) (pair : Pair) (small : party .op < 65536) (rank : RankSmall (party .work)) where
   -- what the event looks at: the number of replicas, the power, the client and the pair
   abbrev seen : Sight
   seen = record { replicas = z .replicas; power = power; party = party; pair = pair }

@@ -26,7 +26,7 @@ use Rattle.rack.specs.declared.Slot.{Slot}
 use Rattle.rack.specs.declared.Rack.{Rack}
 use Rattle.rack.specs.declared.Made.{Made}
 use Rattle.rack.specs.Places.{slotLimit, empty, blank, idle}
-use Rattle.rack.specs.Sound.{allBelow, sizesFit, soundOf}
+use Rattle.rack.specs.Sound.{allBelow, settingsFit, soundOf}
 use Rattle.rack.specs.Run.{freshRack, madeOf}
 use Rattle.rack.specs.laws.Tests.{all-of}
 use Rattle.layout.specs.Layout.{partyPlace, pairPlace, slotPlace, entryPlace, word, firsts}
@@ -238,12 +238,12 @@ fresh-writable ws h replicas clients cells n =
 
 -- what holds of every fresh rack holds of what the maker gives
 pub made-fresh : (P : Rack → Type 0) (replicas clients cells : ℕ)
-    → (sizesFit (record { replicas = replicas; clients = clients; cells = cells }) ≡ true → P (freshRack replicas clients cells)) → P (freshRack 1 1 1)
+    → (settingsFit (record { replicas = replicas; clients = clients; cells = cells }) ≡ true → P (freshRack replicas clients cells)) → P (freshRack 1 1 1)
     → P (madeOf replicas clients cells .rack)
 unfolding madeOf
-made-fresh P replicas clients cells h k = go (sizesFit (record { replicas = replicas; clients = clients; cells = cells })) refl
+made-fresh P replicas clients cells h k = go (settingsFit (record { replicas = replicas; clients = clients; cells = cells })) refl
   where
-    go : (t : Bool) → sizesFit (record { replicas = replicas; clients = clients; cells = cells }) ≡ t
+    go : (t : Bool) → settingsFit (record { replicas = replicas; clients = clients; cells = cells }) ≡ t
         → P (cond {A = Made} t (record { refusal = 0; rack = freshRack replicas clients cells }) (record { refusal = 1; rack = freshRack 1 1 1 }) .rack)
     go true e = h e
     go false e = k

@@ -32,7 +32,7 @@ use Rattle.method.specs.declared.Decision.the-variants.{No, Go}
 use Rattle.method.specs.Plan.{messageOf}
 use Rattle.rack.specs.declared.Line.{Line}
 use Rattle.rack.specs.declared.Slot.{Slot}
-use Rattle.rack.specs.declared.Sizes.{Sizes}
+use Rattle.rack.specs.declared.Settings.{Settings}
 use Rattle.rack.specs.declared.Rack.{Rack}
 use Rattle.rack.specs.Places.{empty, full, blank, idle, partyAt, heldIn, heldAt, freeAt, sentOf}
 use Rattle.rack.specs.Sound.{heldFits, workFits, bodyFits, soundOf}
@@ -64,14 +64,14 @@ pub record Writable (ws : List ℕ) (r : Rack) : Type 0 where
 set-below : (n s : ℕ) → n ≤ 15 → within n s ≡ true → s < 65536
 set-below n s h e = let l : n ≤ 15 = h in omega (arith, within-below n s e, pow-mono {i = n} {j = 15} l)
 
-body-small : (z : Sizes) (b : Body) → Sized z → bodyFits z b ≡ true → bodySmall b
+body-small : (z : Settings) (b : Body) → Sized z → bodyFits z b ≡ true → bodySmall b
 unfolding bodyFits
 body-small z Ask n h = tt
 body-small z (Tell q) n h = rank-below z q n h
 body-small z (Keep q) n h = rank-below z q n h
 body-small z Kept n h = tt
 
-held-small : (z : Sizes) (x : InSlot) → Sized z → heldFits z x ≡ true → HeldOp x → heldSmall x
+held-small : (z : Settings) (x : InSlot) → Sized z → heldFits z x ≡ true → HeldOp x → heldSmall x
 unfolding heldFits
 held-small z Empty n h o = tt
 held-small z (Full m) n h o =
@@ -84,7 +84,7 @@ held-small z (Full m) n h o =
       body = body-small z (m .body) n (q .body);
     }
 
-work-small : (z : Sizes) (w : Work) → Sized z → workFits z w ≡ true → RankSmall w → workSmall w
+work-small : (z : Settings) (w : Work) → Sized z → workFits z w ≡ true → RankSmall w → workSmall w
 work-small z Idle n h k = tt
 work-small z (Asking cell goal set held) n h k =
     let q = ask-open z cell goal set held h in
@@ -99,9 +99,9 @@ small-of ws r h k =
     record {
       power = k .power;
       ops = λ i l. k .ops i;
-      works = λ i l. work-small (r .sizes) (partyAt r i .work) (s .sizes) (s .parties i l) (k .ranks i);
-      ranks = λ a x la lx. rank-below (r .sizes) (getD (r .pairs) (16 * a + x) freshPair) (s .sizes) (s .pairs a x la lx);
-      slots = λ i l. held-small (r .sizes) (heldAt r i) (s .sizes) (s .slots i l) (k .messages i);
+      works = λ i l. work-small (r .settings) (partyAt r i .work) (s .settings) (s .parties i l) (k .ranks i);
+      ranks = λ a x la lx. rank-below (r .settings) (getD (r .pairs) (16 * a + x) freshPair) (s .settings) (s .pairs a x la lx);
+      slots = λ i l. held-small (r .settings) (heldAt r i) (s .settings) (s .slots i l) (k .messages i);
       entries = k .entries;
     }
 
@@ -163,7 +163,7 @@ cleared-ops true j w h i = set-either (λ (x : Slot). HeldOp (x .held)) w j empt
 cleared-ops false j w h i = h i
 
 -- the pair that a message is about is within the sizes
-place-within : (z : Sizes) (x : InSlot) → Sized z → heldFits z x ≡ true → (placeIn x < 16 * z .replicas) × (placeIn x % 16 < z .cells)
+place-within : (z : Settings) (x : InSlot) → Sized z → heldFits z x ≡ true → (placeIn x < 16 * z .replicas) × (placeIn x % 16 < z .cells)
 unfolding placeIn heldFits
 place-within z Empty n h = (omega (arith, n .some-replica), omega (arith, n .some-cell))
 place-within z (Full m) n h =
@@ -177,7 +177,7 @@ module _ (ws : List ℕ) (r : Rack) (e : Event) (p : Plan) (h : soundOf r ≡ tr
   left =
       let d : Decided r e p = decided-fits r e p h g in
       subst (DecisionStays (lookedParty r e .work)) (decided-plan r e p h g)
-      (plan-stays (r .sizes) (sound-of r h .sizes) (r .power) (k .power) (lookedParty r e) (lookedPair r e) (k .ops (lookedClient r e)) (k .ranks (lookedClient r e))
+      (plan-stays (r .settings) (sound-of r h .settings) (r .power) (k .power) (lookedParty r e) (lookedPair r e) (k .ops (lookedClient r e)) (k .ranks (lookedClient r e))
       (lookedHeld r e) (d .looked .held) (k .messages (slotOf e)) e (d .inside))
 
   room : r .count + entriesIn (p .note) ≤ length (r .lines)
@@ -189,18 +189,18 @@ module _ (ws : List ℕ) (r : Rack) (e : Event) (p : Plan) (h : soundOf r ≡ tr
   beyond-stays =
       let d : Decided r e p = decided-fits r e p h g in
       let b : Beyond ws r = k .beyond in
-      let w = place-within (r .sizes) (lookedHeld r e) (sound-of r h .sizes) (d .looked .held) in
+      let w = place-within (r .settings) (lookedHeld r e) (sound-of r h .settings) (d .looked .held) in
       record {
         parties-long = length-set (r .parties) (lookedClient r e) (p .party) ∙ b .parties-long;
         pairs-long = length-set (r .pairs) (lookedPlace r e) (p .pair) ∙ b .pairs-long;
         wire-long =
-            sent-long (cleared (p .clear) (slotOf e) (r .wire)) (addressed (p .message) (membersOf (r .sizes .replicas) (p .to)))
+            sent-long (cleared (p .clear) (slotOf e) (r .wire)) (addressed (p .message) (membersOf (r .settings .replicas) (p .to)))
             ∙ cleared-long (p .clear) (slotOf e) (r .wire)
             ∙ b .wire-long;
         lines-long = recorded-long (p .note) (r .count) (r .lines) ∙ b .lines-long;
         parties = λ i l u. getD-set-other (r .parties) (lookedClient r e) i (p .party) idle (λ q. omega (arith, d .looked .client)) ∙ b .parties i l u;
         pairs = λ i l u. getD-set-other (r .pairs) (lookedPlace r e) i (p .pair) freshPair
-            (λ q. (let a : i < 16 * r .sizes .replicas = omega (arith, w .0) in
+            (λ q. (let a : i < 16 * r .settings .replicas = omega (arith, w .0) in
             let c : i % 16 ≡ lookedPlace r e % 16 = ap (λ (y : ℕ). y % 16) q in
             omega (arith, u a, w .1))) ∙ b .pairs i l u;
         lines = recorded-beyond (p .note) (r .count) (r .lines) (b .lines);
@@ -214,7 +214,7 @@ module _ (ws : List ℕ) (r : Rack) (e : Event) (p : Plan) (h : soundOf r ≡ tr
         power = left .power;
         ops = λ i. set-either (λ (q : Party). q .op < 65536) (r .parties) (lookedClient r e) (p .party) idle i (left .op) (k .ops i);
         ranks = λ i. set-either (λ (q : Party). RankSmall (q .work)) (r .parties) (lookedClient r e) (p .party) idle i (left .rank) (k .ranks i);
-        messages = sent-ops (p .message) (membersOf (r .sizes .replicas) (p .to)) (cleared (p .clear) (slotOf e) (r .wire)) (left .message)
+        messages = sent-ops (p .message) (membersOf (r .settings .replicas) (p .to)) (cleared (p .clear) (slotOf e) (r .wire)) (left .message)
             (cleared-ops (p .clear) (slotOf e) (r .wire) (k .messages));
         entries = recorded-fits (p .note) (r .count) (r .lines) room (left .note) (k .entries);
       }

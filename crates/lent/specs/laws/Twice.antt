@@ -33,14 +33,14 @@ use Rattle.lent.specs.laws.Over.{written-alike, written-over}
 
 -- the sizes of one rack are those of the other, which has no fewer entries
 record Grown (r q : Rack) : Type 0 where
-  sizes : r .sizes ≡ q .sizes
+  sizes : r .settings ≡ q .settings
   entries : r .count ≤ q .count
 
 run-grows : (r : Rack) (n : ℕ) (es : List ℕ) → soundOf r ≡ true → Grown r (runOf r n es .rack)
 unfolding appliedOf
 run-grows r n es s =
     rw (sound-from r n es s)
-    (run-keeps (Grown r) (λ q e p h g k. record { sizes = k .sizes; entries = omega (arith, k .entries) }) 0 r n es s (record { sizes = refl; entries = omega arith }))
+    (run-keeps (Grown r) (λ q e p h g k. record { settings = k .settings; entries = omega (arith, k .entries) }) 0 r n es s (record { settings = refl; entries = omega arith }))
 
 -- ---- the words that two calls leave
 
@@ -85,7 +85,7 @@ module _ (ws : List ℕ) (n : ℕ) (es : List ℕ) (m : ℕ) (rest : List ℕ) (
       go false e =
           let g : Grown mid (straight .rack) = run-grows mid m rest mid-sound in
           written-alike (again .rack) (straight .rack) left (ap (λ (q : Ran). q .rack) same-ran)
-          ∙ written-over mid (straight .rack) ws (run-stays mid m rest mid-sound) l (g .sizes) (g .entries)
+          ∙ written-over mid (straight .rack) ws (run-stays mid m rest mid-sound) l (g .settings) (g .entries)
 
   -- the second call
   second : runOutcome left m rest ≡ record { answer = answerOf (straight .done) (straight .refusal); lent = writtenOf (straight .rack) ws }

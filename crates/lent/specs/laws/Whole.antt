@@ -64,8 +64,8 @@ pub record Beyond (ws : List ℕ) (r : Rack) : Type 0 where
   pub pairs-long : length (r .pairs) ≡ 240
   pub wire-long : length (r .wire) ≡ slotLimit
   pub lines-long : length (r .lines) ≡ entryLimit
-  pub parties : (i : ℕ) → r .sizes .clients ≤ i → i < 8 → partyAt r i ≡ partyIn ws (partyPlace i)
-  pub pairs : (i : ℕ) → i < 240 → (i < 16 * r .sizes .replicas → r .sizes .cells ≤ i % 16) → getD (r .pairs) i freshPair ≡ pairIn ws (pairPlace i)
+  pub parties : (i : ℕ) → r .settings .clients ≤ i → i < 8 → partyAt r i ≡ partyIn ws (partyPlace i)
+  pub pairs : (i : ℕ) → i < 240 → (i < 16 * r .settings .replicas → r .settings .cells ≤ i % 16) → getD (r .pairs) i freshPair ≡ pairIn ws (pairPlace i)
   pub lines : (i : ℕ) → r .count ≤ i → getD (r .lines) i blank ≡ blank
 
 -- within a list the default doesn't matter
@@ -128,7 +128,7 @@ module _ (r : Rack) (ws : List ℕ) (s : soundOf r ≡ true) (f : Sayable r) (l 
   sound = sound-of r s
 
   -- a client beyond the sizes
-  party-beyond : (i : ℕ) → r .sizes .clients ≤ i → i < 8 → partyAt read i ≡ partyAt r i
+  party-beyond : (i : ℕ) → r .settings .clients ≤ i → i < 8 → partyAt read i ≡ partyAt r i
   unfolding rackOf
   party-beyond i h k =
       firsts-at 8 i (λ j. partyIn left (partyPlace j)) idle k
@@ -142,24 +142,24 @@ module _ (r : Rack) (ws : List ℕ) (s : soundOf r ≡ true) (f : Sayable r) (l 
       ∙ sym (b .parties i h k)
 
   -- a pair of a replica or cell beyond the sizes
-  pair-beyond : (i : ℕ) → i < 240 → (i < 16 * r .sizes .replicas → r .sizes .cells ≤ i % 16) → getD (read .pairs) i freshPair ≡ getD (r .pairs) i freshPair
+  pair-beyond : (i : ℕ) → i < 240 → (i < 16 * r .settings .replicas → r .settings .cells ≤ i % 16) → getD (read .pairs) i freshPair ≡ getD (r .pairs) i freshPair
   unfolding rackOf
   pair-beyond i h k =
       firsts-at 240 i (λ j. pairIn left (pairPlace j)) freshPair h
       ∙ pair-same left ws (pairPlace i) (λ j m n. away-stays r ws j (record {
         head = omega arith;
-        parties = λ o p q. omega (arith, sound .sizes .clients);
+        parties = λ o p q. omega (arith, sound .settings .clients);
         pairs = λ o p q t. other j m n o p q t (eqb o i) refl;
         slots = λ o p q. omega arith;
         rows = λ o p q. omega arith;
       }))
       ∙ sym (b .pairs i h k)
     where
-      other : (j : ℕ) → pairPlace i ≤ j → j < pairPlace i + 3 → (o : ℕ) → o < 16 * r .sizes .replicas → o % 16 < r .sizes .cells → pairPlace o ≤ j → (t : Bool) → eqb o i ≡ t
+      other : (j : ℕ) → pairPlace i ≤ j → j < pairPlace i + 3 → (o : ℕ) → o < 16 * r .settings .replicas → o % 16 < r .settings .cells → pairPlace o ≤ j → (t : Bool) → eqb o i ≡ t
           → pairPlace o + 3 ≤ j
       other j m n o p q u true e =
           let w : o ≡ i = eqb-true o i e in
-          let v : r .sizes .cells ≤ i % 16 = k (omega arith) in
+          let v : r .settings .cells ≤ i % 16 = k (omega arith) in
           absurd (let x : o % 16 ≡ i % 16 = ap (λ (y : ℕ). y % 16) w in omega arith)
       other j m n o p q u false e = let w : o ≡ i → ⊥ = eqb-false o i e in omega (arith, w)
 
@@ -167,18 +167,18 @@ module _ (r : Rack) (ws : List ℕ) (s : soundOf r ≡ true) (f : Sayable r) (l 
   unfolding rackOf
   pairs-again =
       let x : length (read .pairs) ≡ 240 = firsts-long 240 (λ j. pairIn left (pairPlace j)) in
-      ext-getD freshPair (read .pairs) (r .pairs) (x ∙ sym (b .pairs-long)) (λ i h. go i (omega arith) (ltb i (16 * r .sizes .replicas)) refl (ltb (i % 16) (r .sizes .cells)) refl)
+      ext-getD freshPair (read .pairs) (r .pairs) (x ∙ sym (b .pairs-long)) (λ i h. go i (omega arith) (ltb i (16 * r .settings .replicas)) refl (ltb (i % 16) (r .settings .cells)) refl)
     where
-      go : (i : ℕ) → i < 240 → (t : Bool) → ltb i (16 * r .sizes .replicas) ≡ t → (u : Bool) → ltb (i % 16) (r .sizes .cells) ≡ u
+      go : (i : ℕ) → i < 240 → (t : Bool) → ltb i (16 * r .settings .replicas) ≡ t → (u : Bool) → ltb (i % 16) (r .settings .cells) ≡ u
           → getD (read .pairs) i freshPair ≡ getD (r .pairs) i freshPair
       go i h true e true g =
           let k : ℕ = i / 16 in
           let x : ℕ = i % 16 in
           let p : i ≡ 16 * k + x = omega arith in
-          let hk : k < r .sizes .replicas = omega (arith, ltb-true i (16 * r .sizes .replicas) e) in
-          rw p (again .pairs k x hk (ltb-true (i % 16) (r .sizes .cells) g))
-      go i h true e false g = pair-beyond i h (λ p. ltb-false (i % 16) (r .sizes .cells) g)
-      go i h false e u g = pair-beyond i h (λ p. absurd (omega (arith, ltb-false i (16 * r .sizes .replicas) e)))
+          let hk : k < r .settings .replicas = omega (arith, ltb-true i (16 * r .settings .replicas) e) in
+          rw p (again .pairs k x hk (ltb-true (i % 16) (r .settings .cells) g))
+      go i h true e false g = pair-beyond i h (λ p. ltb-false (i % 16) (r .settings .cells) g)
+      go i h false e u g = pair-beyond i h (λ p. absurd (omega (arith, ltb-false i (16 * r .settings .replicas) e)))
 
   wire-again : read .wire ≡ r .wire
   unfolding rackOf
@@ -215,11 +215,11 @@ module _ (r : Rack) (ws : List ℕ) (s : soundOf r ≡ true) (f : Sayable r) (l 
 
   -- each client is read again, but that one who was told nothing holds nothing
   party-again : (i : ℕ) → i < 8 → plainParty (partyAt read i) ≡ plainParty (partyAt r i)
-  party-again i h = go (ltb i (r .sizes .clients)) refl
+  party-again i h = go (ltb i (r .settings .clients)) refl
     where
-      go : (t : Bool) → ltb i (r .sizes .clients) ≡ t → plainParty (partyAt read i) ≡ plainParty (partyAt r i)
-      go true e = ap plainParty (again .parties i (ltb-true i (r .sizes .clients) e)) ∙ plain-twice (partyAt r i)
-      go false e = ap plainParty (party-beyond i (ltb-false i (r .sizes .clients) e) h)
+      go : (t : Bool) → ltb i (r .settings .clients) ≡ t → plainParty (partyAt read i) ≡ plainParty (partyAt r i)
+      go true e = ap plainParty (again .parties i (ltb-true i (r .settings .clients) e)) ∙ plain-twice (partyAt r i)
+      go false e = ap plainParty (party-beyond i (ltb-false i (r .settings .clients) e) h)
 
   parties-plain : map plainParty (read .parties) ≡ map plainParty (r .parties)
   parties-plain =
@@ -231,17 +231,17 @@ module _ (r : Rack) (ws : List ℕ) (s : soundOf r ≡ true) (f : Sayable r) (l 
 
   parties-again : Plain r → read .parties ≡ r .parties
   parties-again p =
-      ext-getD idle (read .parties) (r .parties) (parties-read-long ∙ sym (b .parties-long)) (λ i h. go i (omega (arith, parties-read-long)) (ltb i (r .sizes .clients)) refl)
+      ext-getD idle (read .parties) (r .parties) (parties-read-long ∙ sym (b .parties-long)) (λ i h. go i (omega (arith, parties-read-long)) (ltb i (r .settings .clients)) refl)
     where
-      go : (i : ℕ) → i < 8 → (t : Bool) → ltb i (r .sizes .clients) ≡ t → partyAt read i ≡ partyAt r i
-      go i h true e = let k : i < r .sizes .clients = ltb-true i (r .sizes .clients) e in again .parties i k ∙ p i k
-      go i h false e = party-beyond i (ltb-false i (r .sizes .clients) e) h
+      go : (i : ℕ) → i < 8 → (t : Bool) → ltb i (r .settings .clients) ≡ t → partyAt read i ≡ partyAt r i
+      go i h true e = let k : i < r .settings .clients = ltb-true i (r .settings .clients) e in again .parties i k ∙ p i k
+      go i h false e = party-beyond i (ltb-false i (r .settings .clients) e) h
 
   -- a rack is read again, but that a client who was told nothing holds nothing
   pub whole-plain : plainRack read ≡ plainRack r
   unfolding plainRack
   whole-plain = λ j. record {
-    sizes = again .sizes j;
+    settings = again .settings j;
     power = again .power j;
     count = again .count j;
     parties = parties-plain j;
@@ -253,7 +253,7 @@ module _ (r : Rack) (ws : List ℕ) (s : soundOf r ≡ true) (f : Sayable r) (l 
   -- a rack where such clients hold nothing is read again whole
   pub whole : Plain r → read ≡ r
   whole p = λ j. record {
-    sizes = again .sizes j;
+    settings = again .settings j;
     power = again .power j;
     count = again .count j;
     parties = parties-again p j;

@@ -23,7 +23,7 @@ use Rattle.method.specs.declared.Work.{Work}
 use Rattle.method.specs.declared.Work.the-variants.{Idle, Asking, Keeping}
 use Rattle.method.specs.declared.Party.{Party}
 use Rattle.rack.specs.declared.Line.{Line}
-use Rattle.rack.specs.declared.Sizes.{Sizes}
+use Rattle.rack.specs.declared.Settings.{Settings}
 use Rattle.rack.specs.declared.Rack.{Rack}
 use Rattle.rack.specs.declared.Ran.{Ran}
 use Rattle.rack.specs.Places.{partyAt, pairAt, heldAt, recordOf}
@@ -130,10 +130,10 @@ power-few false = record { few = omega arith }
 cell-few : (r : Rack) (k x : ℕ) → Few (space ++ pairText (pairAt r k x)) 64
 cell-few r k x = record { few = omega (arith, pair-few (pairAt r k x) .few) }
 
-replica-few : (r : Rack) → r .sizes .cells ≤ 16 → (k : ℕ) → Few (replicaLine r k) 1057
+replica-few : (r : Rack) → r .settings .cells ≤ 16 → (k : ℕ) → Few (replicaLine r k) 1057
 replica-few r h k =
     let start : Few (field replicaStart k) 28 = record { few = omega (arith, digits-few 20 k .few) } in
-    let pairs : Few (pairsText r k) 1024 = record { few = omega (arith, each-few (r .sizes .cells) 64 (λ x. space ++ pairText (pairAt r k x)) (cell-few r k) .few) } in
+    let pairs : Few (pairsText r k) 1024 = record { few = omega (arith, each-few (r .settings .cells) 64 (λ x. space ++ pairText (pairAt r k x)) (cell-few r k) .few) } in
     let end : Few lineFeed 1 = record { few = omega arith } in
     both start (both (power-few (hasReplica (r .power) k)) (both pairs end))
 
@@ -156,19 +156,19 @@ record-few r h =
 
 -- ---- the rack, and a run
 
-sizes-few : (z : Sizes) → Few (sizesLine z) 68
+sizes-few : (z : Settings) → Few (sizesLine z) 68
 sizes-few z = record { few = simp length-append (omega (arith, digits-few 20 (z .replicas) .few, digits-few 20 (z .clients) .few, digits-few 20 (z .cells) .few)) }
 
 rack-few : (r : Rack) → soundOf r ≡ true → Few (rackText r) 196058
 rack-few r h =
     let s = sound-of r h in
-    let replicas : Few (eachBelow (r .sizes .replicas) (λ k. replicaLine r k)) 15855 =
-    record { few = omega (arith, each-few (r .sizes .replicas) 1057 (λ k. replicaLine r k) (replica-few r (s .sizes .cells)) .few, s .sizes .replicas) } in
-    let clients : Few (eachBelow (r .sizes .clients) (λ i. clientLine i (partyAt r i))) 4256 =
-    record { few = omega (arith, each-few (r .sizes .clients) 532 (λ i. clientLine i (partyAt r i)) (λ i. client-few i (partyAt r i)) .few, s .sizes .clients) } in
+    let replicas : Few (eachBelow (r .settings .replicas) (λ k. replicaLine r k)) 15855 =
+    record { few = omega (arith, each-few (r .settings .replicas) 1057 (λ k. replicaLine r k) (replica-few r (s .settings .cells)) .few, s .settings .replicas) } in
+    let clients : Few (eachBelow (r .settings .clients) (λ i. clientLine i (partyAt r i))) 4256 =
+    record { few = omega (arith, each-few (r .settings .clients) 532 (λ i. clientLine i (partyAt r i)) (λ i. client-few i (partyAt r i)) .few, s .settings .clients) } in
     let slots : Few (eachBelow 256 (λ i. slotLine i (heldAt r i))) 52992 =
     record { few = omega (arith, each-few 256 207 (λ i. slotLine i (heldAt r i)) (λ i. slot-few i (heldAt r i)) .few) } in
-    both (sizes-few (r .sizes)) (both replicas (both clients (both slots (record-few r (omega (arith, s .entries))))))
+    both (sizes-few (r .settings)) (both replicas (both clients (both slots (record-few r (omega (arith, s .entries))))))
 
 refusal-few : (k : ℕ) → Few (refusalText k) 20
 refusal-few k = go (eqb k 0)

@@ -8,7 +8,7 @@ use Rattle.text.specs.Text.{digitsOf, Printed}
 use Rattle.text.specs.laws.OnlyOne.{only-one}
 use Rattle.script.specs.Script.{headOf, scriptOf}
 use Rattle.rack.specs.declared.Ran.{Ran}
-use Rattle.rack.specs.Sound.{sizesFit}
+use Rattle.rack.specs.Sound.{settingsFit}
 use Rattle.rack.specs.Run.{madeOf}
 use Rattle.lines.specs.Lines.{faultLine}
 use Rattle.play.specs.Play.{playedOf, drillText}
@@ -24,11 +24,11 @@ one-played s replicas clients cells allowance first q q′ a b =
 
 -- a maker of 16 replicas is refused 1
 pub refused-made : playedOf (0x07 ∷ 0x00 ∷ []) 16 1 1 9 0 .refusal ≡ 1
-unfolding playedOf madeOf sizesFit
+unfolding playedOf madeOf settingsFit
 refused-made = refl
 
 pub none-done : playedOf (0x07 ∷ 0x00 ∷ []) 16 1 1 9 0 .done ≡ 0
-unfolding playedOf madeOf sizesFit
+unfolding playedOf madeOf settingsFit
 none-done = refl
 
 -- it is not passed over, and nothing is run on its rack

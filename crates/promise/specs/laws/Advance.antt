@@ -25,7 +25,7 @@ use Rattle.promise.specs.laws.Moves.{Moved}
 module _ (r : Rack) (e : Event) (p : Plan) (v : View) (name : ℕ → ℕ → ℕ) (t : Tie r v name) where
   -- the setting of this rack: its sets of replicas, its majorities and its stamps
   abbrev S : Setting
-  S = settingOf (r .sizes .replicas)
+  S = settingOf (r .settings .replicas)
 
   -- the client that the event is about
   abbrev client : ℕ
@@ -39,7 +39,7 @@ module _ (r : Rack) (e : Event) (p : Plan) (v : View) (name : ℕ → ℕ → �
   module _ (w : View) (x y : Op) (time : ℕ) (was : v .ops o ≡ x) (m : Moved S v w o y time) where
     pub advance : x .call .client ≡ client → y .call .client ≡ client → p .party .op ≡ opOf r client → p .pair ≡ lookedPair r e → time ≡ r .count + entriesIn (p .note)
         → At (w .ops) client o (p .party .work) → Book (w .ops) (operations (recordOf (appliedOf r e p)))
-        → ((k : ℕ) → In k (membersOf (r .sizes .replicas) (p .to)) → Sends S w name client p k) → Next r e p v name w name
+        → ((k : ℕ) → In k (membersOf (r .settings .replicas) (p .to)) → Sends S w name client p k) → Next r e p v name w name
     advance cx cy eo ep et at book new =
         record {
           reached = m .reached;
@@ -64,5 +64,5 @@ module _ (r : Rack) (e : Event) (p : Plan) (v : View) (name : ℕ → ℕ → �
   pub no-note : (ops : ℕ → Op) → p .note ≡ Nothing → Book ops (operations (recordOf r)) → Book ops (operations (recordOf (appliedOf r e p)))
   no-note ops q = subst (λ es. Book ops (operations es)) (sym (record-same r e p q))
 
-  pub sends-none : (w : View) → p .to ≡ 0 → (k : ℕ) → In k (membersOf (r .sizes .replicas) (p .to)) → Sends S w name client p k
-  sends-none w q k i = absurd (nobody (r .sizes .replicas) (p .to) k q i)
+  pub sends-none : (w : View) → p .to ≡ 0 → (k : ℕ) → In k (membersOf (r .settings .replicas) (p .to)) → Sends S w name client p k
+  sends-none w q k i = absurd (nobody (r .settings .replicas) (p .to) k q i)

@@ -36,7 +36,7 @@ use Rattle.promise.specs.laws.Advance.{advance, book-on, no-note, sends-
 module _ (r : Rack) (e : Event) (p : Plan) (v : View) (name : ℕ → ℕ → ℕ) (t : Tie r v name) (l : Looked r e) where
   -- the setting of this rack: its sets of replicas, its majorities and its stamps
   abbrev S : Setting
-  S = settingOf (r .sizes .replicas)
+  S = settingOf (r .settings .replicas)
 
   -- the client that the event is about
   abbrev client : ℕ
@@ -58,8 +58,8 @@ module _ (r : Rack) (e : Event) (p : Plan) (v : View) (name : ℕ → ℕ → �
     stood : Stands (v .ops) client o keeping
     stood = subst (At (v .ops) client o) (h .before) (t .clients client (l .client))
 
-    fits : KeepOpen (r .sizes) (h .cell) (h .set) (h .pair)
-    fits = keep-open (r .sizes) (h .cell) (h .goal) (h .set) (h .pair) (subst (λ (w : Work). workFits (r .sizes) w ≡ true) (h .before) (l .work))
+    fits : KeepOpen (r .settings) (h .cell) (h .set) (h .pair)
+    fits = keep-open (r .settings) (h .cell) (h .goal) (h .set) (h .pair) (subst (λ (w : Work). workFits (r .settings) w ≡ true) (h .before) (l .work))
 
     f : Found r e v name (h .message) Kept
     f = found r e v name (h .message) Kept t l (h .got)
@@ -84,12 +84,12 @@ module _ (r : Rack) (e : Event) (p : Plan) (v : View) (name : ℕ → ℕ → �
     abbrev pub endedView : View
     endedView = changed countedView o (ended (countedView .ops o) (v .now)) (suc (v .now))
 
-    enough : keepsEnough (r .sizes .replicas) (countedSet h) ≡ true → S .KeepEnough (countedView .ops o .set)
+    enough : keepsEnough (r .settings .replicas) (countedSet h) ≡ true → S .KeepEnough (countedView .ops o .set)
     enough q =
         subst (S .KeepEnough) (sym (ap (λ (a : Op). a .set) (counting .here)))
-        (keep-enough (r .sizes .replicas) (h .set) (h .message .replica .0) (fits .set) (f .named .replica) q)
+        (keep-enough (r .settings .replicas) (h .set) (h .message .replica .0) (fits .set) (f .named .replica) q)
 
-    ending : keepsEnough (r .sizes .replicas) (countedSet h) ≡ true → Moved S countedView endedView o (ended kept (v .now)) (suc (v .now))
+    ending : keepsEnough (r .settings .replicas) (countedSet h) ≡ true → Moved S countedView endedView o (ended kept (v .now)) (suc (v .now))
     ending q =
         moved S countedView (counting .reached) (finish o) (ap (λ (a : Op). a .phase) (counting .here), enough q) o _ (ended kept (v .now)) (suc (v .now)) refl
         (ap (λ (a : Op). ended a (v .now)) (counting .here))

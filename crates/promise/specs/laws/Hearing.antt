@@ -31,10 +31,10 @@ use Rattle.promise.specs.laws.Slot.{Found, found}
 use Rattle.promise.specs.laws.Moves.{Moved, moved, moved-on}
 use Rattle.promise.specs.laws.Advance.{advance, book-on, no-note, sends-none}
 
-module _ (r : Rack) (e : Event) (p : Plan) (v : View) (name : ℕ → ℕ → ℕ) (t : Tie r v name) (l : Looked r e) (z : Sized (r .sizes)) where
+module _ (r : Rack) (e : Event) (p : Plan) (v : View) (name : ℕ → ℕ → ℕ) (t : Tie r v name) (l : Looked r e) (z : Sized (r .settings)) where
   -- the setting of this rack: its sets of replicas, its majorities and its stamps
   abbrev S : Setting
-  S = settingOf (r .sizes .replicas)
+  S = settingOf (r .settings .replicas)
 
   -- the client that the event is about
   abbrev client : ℕ
@@ -56,18 +56,18 @@ module _ (r : Rack) (e : Event) (p : Plan) (v : View) (name : ℕ → ℕ → �
     stood : Stands (v .ops) client o asking
     stood = subst (At (v .ops) client o) (h .before) (t .clients client (l .client))
 
-    fits : AskOpen (r .sizes) (h .cell) (h .set) (h .pair)
-    fits = ask-open (r .sizes) (h .cell) (h .goal) (h .set) (h .pair) (subst (λ (w : Work). workFits (r .sizes) w ≡ true) (h .before) (l .work))
+    fits : AskOpen (r .settings) (h .cell) (h .set) (h .pair)
+    fits = ask-open (r .settings) (h .cell) (h .goal) (h .set) (h .pair) (subst (λ (w : Work). workFits (r .settings) w ≡ true) (h .before) (l .work))
 
     held-rank : (h .set ≡ 0) ⊎ Ranked (h .pair .stamp)
-    held-rank = ⊎-elim (λ q. inl q) (λ q. inr (fits-ranked (r .sizes) z (h .pair) q)) (fits .held)
+    held-rank = ⊎-elim (λ q. inl q) (λ q. inr (fits-ranked (r .settings) z (h .pair) q)) (fits .held)
 
     f : Found r e v name (h .message) (Tell (h .told))
     f = found r e v name (h .message) (Tell (h .told)) t l (h .got)
 
     told-rank : Ranked (h .told .stamp)
     unfolding bodyFits
-    told-rank = fits-ranked (r .sizes) z (h .told) (f .fits)
+    told-rank = fits-ranked (r .settings) z (h .told) (f .fits)
 
     means : Told S v o (h .message .replica .0) (pairOf (h .told))
     means =
@@ -92,12 +92,12 @@ module _ (r : Rack) (e : Event) (p : Plan) (v : View) (name : ℕ → ℕ → �
     abbrev pub choseView : View
     choseView = changed heardView o (keeping S (heardView .ops o)) (v .now)
 
-    enough : asksEnough (r .sizes .replicas) (heardSet h) ≡ true → S .AskEnough (heardView .ops o .set)
+    enough : asksEnough (r .settings .replicas) (heardSet h) ≡ true → S .AskEnough (heardView .ops o .set)
     enough q =
         subst (S .AskEnough) (sym (ap (λ (a : Op). a .set) (hearing .here)))
-        (ask-enough (r .sizes .replicas) (h .set) (h .message .replica .0) (fits .set) (f .named .replica) q)
+        (ask-enough (r .settings .replicas) (h .set) (h .message .replica .0) (fits .set) (f .named .replica) q)
 
-    choosing : asksEnough (r .sizes .replicas) (heardSet h) ≡ true → (chosen : Pair) → Chosen (h .goal) client (h .after) chosen
+    choosing : asksEnough (r .settings .replicas) (heardSet h) ≡ true → (chosen : Pair) → Chosen (h .goal) client (h .after) chosen
         → Moved S v choseView o (openAt 2 o client (h .cell) (h .goal) 0 chosen) (v .now)
     choosing q chosen k =
         let kept = openAt 2 o client (h .cell) (h .goal) 0 chosen in
@@ -105,7 +105,7 @@ module _ (r : Rack) (e : Event) (p : Plan) (v : View) (name : ℕ → ℕ → �
         (moved S heardView (hearing .reached) (choose o) (ap (λ (a : Op). a .phase) (hearing .here), enough q) o _ kept (v .now) refl
         (ap (keeping S) (hearing .here)
         ∙ ap (openWith 2 o client (h .cell) (h .goal) 0)
-        (chosen-seen (r .sizes .replicas) o client (h .cell) (h .goal) (heardSet h) (h .after) chosen
+        (chosen-seen (r .settings .replicas) o client (h .cell) (h .goal) (heardSet h) (h .after) chosen
         (holds-rank (h .set) (h .pair) (h .told) (h .after) held-rank told-rank (h .heard)) k)))
 
   -- ---- the ask phase goes on
@@ -145,7 +145,7 @@ module _ (r : Rack) (e : Event) (p : Plan) (v : View) (name : ℕ → ℕ → �
       chose : Chose w o (h .cell .0) (pairOf (q .chosen))
       chose = let a : w .ops o ≡ kept = m .here in record { chosen = rw a (omega arith); cell = rw a refl; held = rw a refl }
 
-      sends : (k : ℕ) → In k (membersOf (r .sizes .replicas) (p .to)) → Sends S w name client p k
+      sends : (k : ℕ) → In k (membersOf (r .settings .replicas) (p .to)) → Sends S w name client p k
       sends k i =
           let b : p .party .op ≡ opOf r client = q .op in
           says-sends S w name client p k (h .cell .0) (opOf r client) (Keep (q .chosen)) (q .says) (omega arith) chose

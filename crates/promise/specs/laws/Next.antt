@@ -50,20 +50,20 @@ at-still ops name c a b eo ew h = rw (eo, ew) h
 
 -- The event e, done as planned on a rack that the view v stands for, leaves the view w.
 pub record Next (r : Rack) (e : Event) (p : Plan) (v : View) (name : ℕ → ℕ → ℕ) (w : View) (name' : ℕ → ℕ → ℕ) : Type 0 where
-  pub reached : Reached (settingOf (r .sizes .replicas)) w
+  pub reached : Reached (settingOf (r .settings .replicas)) w
   pub now : w .now ≡ r .count + entriesIn (p .note)
   -- operation numbers don't fall
   pub op : lookedParty r e .op ≤ p .party .op
   -- what is true of the messages on the wire stays true
   pub old : (m : Message) → m .op ≤ opOf r (m .client .0)
-      → Means (settingOf (r .sizes .replicas)) v (name (m .client .0) (m .op)) (m .replica .0) (m .cell .0) (m .body)
-      → Means (settingOf (r .sizes .replicas)) w (name' (m .client .0) (m .op)) (m .replica .0) (m .cell .0) (m .body)
+      → Means (settingOf (r .settings .replicas)) v (name (m .client .0) (m .op)) (m .replica .0) (m .cell .0) (m .body)
+      → Means (settingOf (r .settings .replicas)) w (name' (m .client .0) (m .op)) (m .replica .0) (m .cell .0) (m .body)
   -- what is sent is true
-  pub new : (k : ℕ) → In k (membersOf (r .sizes .replicas) (p .to)) → Sends (settingOf (r .sizes .replicas)) w name' (lookedClient r e) p k
+  pub new : (k : ℕ) → In k (membersOf (r .settings .replicas) (p .to)) → Sends (settingOf (r .settings .replicas)) w name' (lookedClient r e) p k
   -- the event's client, and the others
   pub this : At (w .ops) (lookedClient r e) (name' (lookedClient r e) (p .party .op)) (p .party .work)
-  pub others : (c : ℕ) → c < r .sizes .clients → c ≢ lookedClient r e → At (w .ops) c (name' c (opOf r c)) (partyAt r c .work)
-  pub pairs : (k x : ℕ) → k < r .sizes .replicas → x < r .sizes .cells
+  pub others : (c : ℕ) → c < r .settings .clients → c ≢ lookedClient r e → At (w .ops) c (name' c (opOf r c)) (partyAt r c .work)
+  pub pairs : (k x : ℕ) → k < r .settings .replicas → x < r .settings .cells
       → w .pair k x ≡ pairOf (getD (set (r .pairs) (lookedPlace r e) (p .pair)) (pairPlace k x) freshPair)
   pub book : Book (w .ops) (operations (recordOf (appliedOf r e p)))
 
@@ -83,7 +83,7 @@ module _ (r : Rack) (e : Event) (p : Plan) (v : View) (name : ℕ → ℕ → �
     (w : View) (name' : ℕ → ℕ → ℕ) (n : Next r e p v name w name') where
   -- the setting of this rack: its sets of replicas, its majorities and its stamps
   abbrev S : Setting
-  S = settingOf (r .sizes .replicas)
+  S = settingOf (r .settings .replicas)
 
   -- the client that the event is about
   abbrev client : ℕ
@@ -103,7 +103,7 @@ module _ (r : Rack) (e : Event) (p : Plan) (v : View) (name : ℕ → ℕ → �
   rises c (yes q) = let a = ap (λ (x : Party). x .op) this-party in let h = n .op in rw q (omega arith)
   rises c (no q) = let a = ap (λ (x : Party). x .op) (other-party c q) in omega arith
 
-  stays : (c : ℕ) → c < r .sizes .clients → Dec (c ≡ client) → At (w .ops) c (name' c (partyAfter c .op)) (partyAfter c .work)
+  stays : (c : ℕ) → c < r .settings .clients → Dec (c ≡ client) → At (w .ops) c (name' c (partyAfter c .op)) (partyAfter c .work)
   stays c h (yes q) = rw (q, this-party) (n .this)
   stays c h (no q) = rw (other-party c q) (n .others c h q)
 
@@ -114,15 +114,15 @@ module _ (r : Rack) (e : Event) (p : Plan) (v : View) (name : ℕ → ℕ → �
   old-true : (m : Message) → OnWire S v name (opOf r) m → True m
   old-true m (h, k) = (omega (arith, rises (m .client .0) (ℕ-discrete (m .client .0) client)), n .old m h k)
 
-  new-true : (k : ℕ) → In k (membersOf (r .sizes .replicas) (p .to))
+  new-true : (k : ℕ) → In k (membersOf (r .settings .replicas) (p .to))
       → True (messageOf (p .message .client) (record { 0 = k }) (p .message .cell) (p .message .op) (p .message .body))
   new-true k i =
       let s = n .new k i in
       let a : partyAfter (p .message .client .0) .op ≡ p .party .op = ap (λ (c : ℕ). partyAfter c .op) (s .client) ∙ ap (λ (x : Party). x .op) this-party in
       (omega (arith, s .op), s .means)
 
-  sent-true : (m : Message) → In m (addressed (p .message) (membersOf (r .sizes .replicas) (p .to))) → True m
-  sent-true m i = let a = addressed-of (p .message) (membersOf (r .sizes .replicas) (p .to)) m i in rw (a .1 .1) (new-true (a .0) (a .1 .0))
+  sent-true : (m : Message) → In m (addressed (p .message) (membersOf (r .settings .replicas) (p .to))) → True m
+  sent-true m i = let a = addressed-of (p .message) (membersOf (r .settings .replicas) (p .to)) m i in rw (a .1 .1) (new-true (a .0) (a .1 .0))
 
   pub tie-next : Tie (appliedOf r e p) w name'
   unfolding appliedOf
@@ -137,7 +137,7 @@ module _ (r : Rack) (e : Event) (p : Plan) (v : View) (name : ℕ → ℕ → �
         now = n .now;
         clients = λ c h. stays c h (ℕ-discrete c client);
         pairs = n .pairs;
-        wire = sent-all True (addressed (p .message) (membersOf (r .sizes .replicas) (p .to))) (cleared (p .clear) (slotOf e) (r .wire)) sent-true
+        wire = sent-all True (addressed (p .message) (membersOf (r .settings .replicas) (p .to))) (cleared (p .clear) (slotOf e) (r .wire)) sent-true
             (cleared-all True (p .clear) (slotOf e) (r .wire) (λ i. slot-map (OnWire S v name (opOf r)) True old-true (heldIn (r .wire) i) (t .wire i)));
         book = n .book;
       }

@@ -30,7 +30,7 @@ use Rattle.promise.specs.laws.Slot.{Found, found, pairs-same}
 module _ (r : Rack) (e : Event) (p : Plan) (v : View) (name : ℕ → ℕ → ℕ) (t : Tie r v name) (l : Looked r e) where
   -- the setting of this rack: its sets of replicas, its majorities and its stamps
   abbrev S : Setting
-  S = settingOf (r .sizes .replicas)
+  S = settingOf (r .settings .replicas)
 
   -- the client that the event is about
   abbrev client : ℕ
@@ -40,7 +40,7 @@ module _ (r : Rack) (e : Event) (p : Plan) (v : View) (name : ℕ → ℕ → �
   abbrev To : ℕ → Type 0
   To k = Sends S v name client p k
 
-  quiet : Still (sight r e) p → p .pair ≡ lookedPair r e → ((k : ℕ) → In k (membersOf (r .sizes .replicas) (p .to)) → To k) → Next r e p v name v name
+  quiet : Still (sight r e) p → p .pair ≡ lookedPair r e → ((k : ℕ) → In k (membersOf (r .settings .replicas) (p .to)) → To k) → Next r e p v name v name
   quiet still pair new =
       record {
         reached = t .reached;
@@ -60,10 +60,10 @@ module _ (r : Rack) (e : Event) (p : Plan) (v : View) (name : ℕ → ℕ → �
   request-means o k x b (Asking cell goal set held) (a, h) (ex, eb) = rw (ex, eb, a) (omega arith, refl)
   request-means o k x b (Keeping cell goal set held) (a, h) (ex, eb) = rw (ex, eb) (record { chosen = rw a (omega arith); cell = rw a refl; held = rw a refl })
 
-  repeats-true : p .party .op ≡ opOf r client → Repeats (sight r e) client (lookedHeld r e) p → (k : ℕ) → In k (membersOf (r .sizes .replicas) (p .to)) → To k
-  repeats-true o (none q) k i = absurd (nobody (r .sizes .replicas) (p .to) k q i)
+  repeats-true : p .party .op ≡ opOf r client → Repeats (sight r e) client (lookedHeld r e) p → (k : ℕ) → In k (membersOf (r .settings .replicas) (p .to)) → To k
+  repeats-true o (none q) k i = absurd (nobody (r .settings .replicas) (p .to) k q i)
   repeats-true o (copy m g q to) k i =
-      let j : k ≡ m .replica .0 = only (r .sizes .replicas) (p .to) (m .replica .0) k to i in
+      let j : k ≡ m .replica .0 = only (r .settings .replicas) (p .to) (m .replica .0) k to i in
       let f = found r e v name m (m .body) t l g in
       says-sends S v name client p k (m .cell .0) (m .op) (m .body)
       (record { client = rw q (g .client); cell = rw q refl; op = rw q refl; body = rw q refl })
@@ -94,8 +94,8 @@ module _ (r : Rack) (e : Event) (p : Plan) (v : View) (name : ℕ → ℕ → �
           subst (Told S v o (m .replica .0)) (ap (v .pair (m .replica .0)) (f .means .1) ∙ f .pair)
           (tell-true S v (reached-keeps S (t .reached)) o (m .replica .0) (f .means .0))
 
-      told : (k : ℕ) → In k (membersOf (r .sizes .replicas) (p .to)) → To k
+      told : (k : ℕ) → In k (membersOf (r .settings .replicas) (p .to)) → To k
       told k i =
-          let j : k ≡ m .replica .0 = only (r .sizes .replicas) (p .to) (m .replica .0) k (h .to) i in
+          let j : k ≡ m .replica .0 = only (r .settings .replicas) (p .to) (m .replica .0) k (h .to) i in
           let b : p .party .op ≡ opOf r client = h .still .op in
           says-sends S v name client p k (m .cell .0) (m .op) (Tell (lookedPair r e)) (h .says) (omega (arith, f .op)) (rw j tells)

@@ -49,7 +49,7 @@ plan-is : (r : Rack) (e : Event) (p : Plan) → Sound r → decided r e ≡ Go p
 unfolding decided
 plan-is r e p s d =
     let o = planOf (sight r e) (lookedHeld r e) e in
-    checked-go o (r .count + owed r) (roomOf (r .wire)) p (s .entries) (in-go (inRack (r .sizes) e) (checked o (r .count + owed r) (roomOf (r .wire))) p d) .same
+    checked-go o (r .count + owed r) (roomOf (r .wire)) p (s .entries) (in-go (inRack (r .settings) e) (checked o (r .count + owed r) (roomOf (r .wire))) p d) .same
 
 -- the entry that an event adds has its place
 has-room : (r : Rack) (e : Event) (p : Plan) → Sound (appliedOf r e p) → r .count + entriesIn (p .note) ≤ entryLimit
@@ -72,15 +72,15 @@ event-tied r e p h d k = go (method (sight r e) (lookedHeld r e) e p (plan-is r 
     room = has-room r e p (stays r e p h d)
 
     next : (w : View) (name : ℕ → ℕ → ℕ) → Next r e p v (k .name) w name → Tied (appliedOf r e p)
-    next w name n = record { view = w; name = name; tie = tie-next r e p v (k .name) (k .tie) (omega (arith, c .looked .client, s .sizes .clients)) w name n }
+    next w name n = record { view = w; name = name; tie = tie-next r e p v (k .name) (k .tie) (omega (arith, c .looked .client, s .settings .clients)) w name n }
 
     go : Does (sight r e) (lookedClient r e) (lookedHeld r e) p → Tied (appliedOf r e p)
     go (rests q) = next _ _ (rests-next r e p v (k .name) (k .tie) (c .looked) q)
-    go (starts q) = next _ _ (starts-next r e p v (k .name) (k .tie) (c .looked) (s .sizes) (omega (arith, room, asked-added (p .note) _ (q .note))) q)
+    go (starts q) = next _ _ (starts-next r e p v (k .name) (k .tie) (c .looked) (s .settings) (omega (arith, room, asked-added (p .note) _ (q .note))) q)
     go (tells q) = next _ _ (tells-next r e p v (k .name) (k .tie) (c .looked) q)
-    go (takes q) = next _ _ (takes-next r e p v (k .name) (k .tie) (c .looked) (s .sizes) q)
-    go (hears q) = next _ _ (hears-next r e p v (k .name) (k .tie) (c .looked) (s .sizes) q)
-    go (chooses q) = next _ _ (chooses-next r e p v (k .name) (k .tie) (c .looked) (s .sizes) q)
+    go (takes q) = next _ _ (takes-next r e p v (k .name) (k .tie) (c .looked) (s .settings) q)
+    go (hears q) = next _ _ (hears-next r e p v (k .name) (k .tie) (c .looked) (s .settings) q)
+    go (chooses q) = next _ _ (chooses-next r e p v (k .name) (k .tie) (c .looked) (s .settings) q)
     go (counts q) = next _ _ (counts-next r e p v (k .name) (k .tie) (c .looked) q)
     go (ends q) = next _ _ (ends-next r e p v (k .name) (k .tie) (c .looked) q (omega (arith, room, ended-added (p .note) _ (q .note))))
 

@@ -12,7 +12,7 @@ use Rattle.quorum.specs.laws.SetLaws.{within-below, below-within, with-new, wit
 use Rattle.quorum.specs.laws.Members.{members-has}
 use Rattle.stamps.specs.declared.Stamp.{Stamp}
 use Rattle.stamps.specs.declared.Pair.{Pair}
-use Rattle.rack.specs.declared.Sizes.{Sizes}
+use Rattle.rack.specs.declared.Settings.{Settings}
 use Rattle.stamps.specs.StampOrder.{stampOf, Rank, Ranked}
 use Rattle.rack.specs.Sound.{pairFits}
 use Rattle.rack.specs.laws.SoundLaws.{Sized}
@@ -23,10 +23,10 @@ use Rattle.promise.specs.Setting.{settingOf}
 -- ---- sets, and ranks
 
 -- in a rack of permitted sizes every client has a rank, and every pair that fits one
-pub client-rank : (z : Sizes) → Sized z → (c : ℕ) → c < z .clients → Rank c
+pub client-rank : (z : Settings) → Sized z → (c : ℕ) → c < z .clients → Rank c
 client-rank z n c h = omega (arith, n .clients)
 
-pub fits-ranked : (z : Sizes) → Sized z → (p : Pair) → pairFits z p ≡ true → Ranked (p .stamp)
+pub fits-ranked : (z : Settings) → Sized z → (p : Pair) → pairFits z p ≡ true → Ranked (p .stamp)
 unfolding pairFits
 fits-ranked z n p e = client-rank z n (p .stamp .rank) (ltb-true (p .stamp .rank) (z .clients) e)
 

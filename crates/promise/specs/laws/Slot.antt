@@ -8,7 +8,7 @@ use Rattle.method.specs.declared.Body.{Body}
 use Rattle.method.specs.declared.Message.{Message}
 use Rattle.method.specs.declared.InSlot.{InSlot}
 use Rattle.method.specs.declared.InSlot.the-variants.{Full}
-use Rattle.rack.specs.declared.Sizes.{Sizes}
+use Rattle.rack.specs.declared.Settings.{Settings}
 use Rattle.rack.specs.declared.Rack.{Rack}
 use Rattle.stamps.specs.Stamp.{freshPair}
 use Rattle.method.specs.declared.Event.{Event}
@@ -27,18 +27,18 @@ place-of : (h : InSlot) (m : Message) → h ≡ Full m → placeIn h ≡ pairPla
 unfolding placeIn
 place-of h m e = rw e
 
-fits-of : (z : Sizes) (h : InSlot) (m : Message) → h ≡ Full m → heldFits z h ≡ true → Named z m
+fits-of : (z : Settings) (h : InSlot) (m : Message) → h ≡ Full m → heldFits z h ≡ true → Named z m
 unfolding heldFits
 fits-of z h m e f = named z m (rw e at f)
 
 -- What is known of a message that was got, of the event's client and with body b.
 pub record Found (r : Rack) (e : Event) (v : View) (name : ℕ → ℕ → ℕ) (m : Message) (b : Body) : Type 0 where
   -- it names what is there
-  pub named : Named (r .sizes) m
-  pub fits : bodyFits (r .sizes) b ≡ true
+  pub named : Named (r .settings) m
+  pub fits : bodyFits (r .settings) b ≡ true
   -- its operation number is one that the client has had, and it means something true
   pub op : m .op ≤ opOf r (lookedClient r e)
-  pub means : Means (settingOf (r .sizes .replicas)) v (name (lookedClient r e) (m .op)) (m .replica .0) (m .cell .0) b
+  pub means : Means (settingOf (r .settings .replicas)) v (name (lookedClient r e) (m .op)) (m .replica .0) (m .cell .0) b
   -- the pair that the event looks at is that of its replica for its cell
   pub place : lookedPlace r e ≡ pairPlace (m .replica .0) (m .cell .0)
   pub pair : v .pair (m .replica .0) (m .cell .0) ≡ pairOf (lookedPair r e)
@@ -48,7 +48,7 @@ pub found : (r : Rack) (e : Event) (v : View) (name : ℕ → ℕ → ℕ) (m : 
 found r e v name m b t l g =
     record {
       named = n;
-      fits = subst (λ (x : Body). bodyFits (r .sizes) x ≡ true) (g .body) (n .body);
+      fits = subst (λ (x : Body). bodyFits (r .settings) x ≡ true) (g .body) (n .body);
       op = subst (λ (c : ℕ). m .op ≤ opOf r c) (g .client) (on .0);
       means = subst (Means S v (name (lookedClient r e) (m .op)) (m .replica .0) (m .cell .0)) (g .body)
           (subst (λ (c : ℕ). Means S v (name c (m .op)) (m .replica .0) (m .cell .0) (m .body)) (g .client) (on .1));
@@ -57,10 +57,10 @@ found r e v name m b t l g =
     }
   where
     S : Setting
-    S = settingOf (r .sizes .replicas)
+    S = settingOf (r .settings .replicas)
 
-    n : Named (r .sizes) m
-    n = fits-of (r .sizes) (lookedHeld r e) m (g .here) (l .held)
+    n : Named (r .settings) m
+    n = fits-of (r .settings) (lookedHeld r e) m (g .here) (l .held)
 
     on : OnWire S v name (opOf r) m
     on = subst (Holding (OnWire S v name (opOf r))) (g .here) (t .wire (slotOf e))
@@ -70,5 +70,5 @@ found r e v name m b t l g =
 
 -- a pair that stays leaves the view's pairs as they are
 pub pairs-same : (r : Rack) (e : Event) (p : Plan) (v : View) (name : ℕ → ℕ → ℕ) → Tie r v name → p .pair ≡ lookedPair r e
-    → (k x : ℕ) → k < r .sizes .replicas → x < r .sizes .cells → v .pair k x ≡ pairOf (getD (set (r .pairs) (lookedPlace r e) (p .pair)) (pairPlace k x) freshPair)
+    → (k x : ℕ) → k < r .settings .replicas → x < r .settings .cells → v .pair k x ≡ pairOf (getD (set (r .pairs) (lookedPlace r e) (p .pair)) (pairPlace k x) freshPair)
 pairs-same r e p v name t q k x hk hx = rw (q, set-getD (r .pairs) (lookedPlace r e) freshPair) (t .pairs k x hk hx)

@@ -34,11 +34,11 @@ use Rattle.promise.specs.laws.Next.{Sends, says-sends, Next}
 use Rattle.promise.specs.laws.Slot.{pairs-same}
 use Rattle.promise.specs.laws.Moves.{Moved, moved}
 
-module _ (r : Rack) (e : Event) (p : Plan) (v : View) (name : ℕ → ℕ → ℕ) (t : Tie r v name) (l : Looked r e) (z : Sized (r .sizes)) (room : r .count < entryLimit)
+module _ (r : Rack) (e : Event) (p : Plan) (v : View) (name : ℕ → ℕ → ℕ) (t : Tie r v name) (l : Looked r e) (z : Sized (r .settings)) (room : r .count < entryLimit)
     (q : Starts (sight r e) (lookedClient r e) p) where
   -- the setting of this rack: its sets of replicas, its majorities and its stamps
   abbrev S : Setting
-  S = settingOf (r .sizes .replicas)
+  S = settingOf (r .settings .replicas)
 
   -- the client that the event is about
   abbrev client : ℕ
@@ -81,7 +81,7 @@ module _ (r : Rack) (e : Event) (p : Plan) (v : View) (name : ℕ → ℕ → �
 
   starting : Moved S v startedView o new (suc o)
   starting =
-      moved S v (t .reached) (start o client (q .cell .0) (writes (q .goal)) (valueOf (q .goal))) (unused, (client-rank (r .sizes) z client (l .client), free)) o _ new
+      moved S v (t .reached) (start o client (q .cell .0) (writes (q .goal)) (valueOf (q .goal))) (unused, (client-rank (r .settings) z client (l .client), free)) o _ new
       (suc o) refl refl
 
   -- ---- the messages
@@ -93,7 +93,7 @@ module _ (r : Rack) (e : Event) (p : Plan) (v : View) (name : ℕ → ℕ → �
       (sym (named-else name client k o (m .client .0) (m .op) (λ c d. let b = ap (opOf r) c in omega arith)))
       (starting .stays (name (m .client .0) (m .op)) (m .replica .0) (m .cell .0) (m .body) a)
 
-  asks : (j : ℕ) → In j (membersOf (r .sizes .replicas) (p .to)) → Sends S startedView startedName client p j
+  asks : (j : ℕ) → In j (membersOf (r .settings .replicas) (p .to)) → Sends S startedView startedName client p j
   asks j i =
       let a : startedView .ops o ≡ new = starting .here in
       let b : Means S startedView o j (q .cell .0) Ask = (rw a (omega arith), rw a refl) in
@@ -109,7 +109,7 @@ module _ (r : Rack) (e : Event) (p : Plan) (v : View) (name : ℕ → ℕ → �
       (subst (λ (i : ℕ). At (startedView .ops) client i (p .party .work)) (sym (named-here name client k o))
       (subst (At (startedView .ops) client o) (sym (q .work)) (stands-on (v .ops) (startedView .ops) o (starting .other) client new (starting .here) (λ i d. free i))))
 
-  others : (c : ℕ) → c < r .sizes .clients → c ≢ client → At (startedView .ops) c (startedName c (opOf r c)) (partyAt r c .work)
+  others : (c : ℕ) → c < r .settings .clients → c ≢ client → At (startedView .ops) c (startedName c (opOf r c)) (partyAt r c .work)
   others c h d =
       subst (λ (i : ℕ). At (startedView .ops) c i (partyAt r c .work)) (sym (named-else name client k o c (opOf r c) (λ i. absurd (d i))))
       (at-other (v .ops) (startedView .ops) o (starting .other) client c (ap (λ (a : Op). a .call .client) (starting .here)) (λ b. absurd (omega (arith, unused))) d

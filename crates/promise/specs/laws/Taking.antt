@@ -35,11 +35,11 @@ use Rattle.promise.specs.laws.Wire.{means-stays}
 use Rattle.promise.specs.laws.Next.{Sends, says-sends, at-still, Next}
 use Rattle.promise.specs.laws.Slot.{Found, found}
 
-module _ (r : Rack) (e : Event) (p : Plan) (v : View) (name : ℕ → ℕ → ℕ) (t : Tie r v name) (l : Looked r e) (z : Sized (r .sizes))
+module _ (r : Rack) (e : Event) (p : Plan) (v : View) (name : ℕ → ℕ → ℕ) (t : Tie r v name) (l : Looked r e) (z : Sized (r .settings))
     (h : Takes (sight r e) (lookedClient r e) (lookedHeld r e) p) where
   -- the setting of this rack: its sets of replicas, its majorities and its stamps
   abbrev S : Setting
-  S = settingOf (r .sizes .replicas)
+  S = settingOf (r .settings .replicas)
 
   -- the client that the event is about
   abbrev client : ℕ
@@ -83,8 +83,8 @@ module _ (r : Rack) (e : Event) (p : Plan) (v : View) (name : ℕ → ℕ → �
   unfolding bodyFits
   moved-is =
       ap (λ (q : Seen). newerOf q (pairOf (h .given))) (f .pair)
-      ∙ raised-seen (lookedPair r e) (h .given) (p .pair) (fits-ranked (r .sizes) z (lookedPair r e) (l .pair))
-      (fits-ranked (r .sizes) z (h .given) (f .fits)) (h .pair)
+      ∙ raised-seen (lookedPair r e) (h .given) (p .pair) (fits-ranked (r .settings) z (lookedPair r e) (l .pair))
+      (fits-ranked (r .settings) z (h .given) (f .fits)) (h .pair)
 
   -- the pair of replica j for cell y after the event
   abbrev after : ℕ → ℕ → Seen
@@ -96,20 +96,20 @@ module _ (r : Rack) (e : Event) (p : Plan) (v : View) (name : ℕ → ℕ → �
       ∙ sym (ap (λ (i : ℕ). pairOf (getD (set (r .pairs) (lookedPlace r e) (p .pair)) i freshPair)) (sym (f .place))
       ∙ ap pairOf (getD-set-same (r .pairs) (lookedPlace r e) (p .pair) freshPair (omega (arith, l .place, t .long .pairs))))
 
-  else : (j y : ℕ) → pairPlace j y ≢ pairPlace k x → j < r .sizes .replicas → y < r .sizes .cells → v .pair j y ≡ after j y
+  else : (j y : ℕ) → pairPlace j y ≢ pairPlace k x → j < r .settings .replicas → y < r .settings .cells → v .pair j y ≡ after j y
   else j y d hj hy =
       t .pairs j y hj hy ∙ ap pairOf (sym (getD-set-other (r .pairs) (lookedPlace r e) (pairPlace j y) (p .pair) freshPair (λ q. d (q ∙ f .place))))
 
-  pairs : (j y : ℕ) → j < r .sizes .replicas → y < r .sizes .cells → taken .pair j y ≡ after j y
+  pairs : (j y : ℕ) → j < r .settings .replicas → y < r .settings .cells → taken .pair j y ≡ after j y
   pairs j y =
-      put-one (λ q g. q < r .sizes .replicas → y < r .sizes .cells → g y ≡ after q y) (v .pair) k (put (v .pair k) x moved)
-      (put-one (λ q s. k < r .sizes .replicas → q < r .sizes .cells → s ≡ after k q) (v .pair k) x moved (λ a b. here)
+      put-one (λ q g. q < r .settings .replicas → y < r .settings .cells → g y ≡ after q y) (v .pair) k (put (v .pair k) x moved)
+      (put-one (λ q s. k < r .settings .replicas → q < r .settings .cells → s ≡ after k q) (v .pair k) x moved (λ a b. here)
       (λ q d a b. else k q (λ i. d (omega arith)) a b) y)
       (λ q d a b. else q y (λ i. d (omega (arith, f .named .cell, z .cells))) a b) j
 
-  kept : (j : ℕ) → In j (membersOf (r .sizes .replicas) (p .to)) → Sends S taken name client p j
+  kept : (j : ℕ) → In j (membersOf (r .settings .replicas) (p .to)) → Sends S taken name client p j
   kept j i =
-      let q : j ≡ k = only (r .sizes .replicas) (p .to) k j (h .to) i in
+      let q : j ≡ k = only (r .settings .replicas) (p .to) k j (h .to) i in
       let b : p .party .op ≡ opOf r client = h .still .op in
       says-sends S taken name client p j x (m .op) Kept (h .says) (omega (arith, f .op))
       (rw q (kept-true v o k x (pairOf (h .given)) legal))

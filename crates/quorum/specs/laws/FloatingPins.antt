@@ -6,6 +6,7 @@ use native.Mathlib.Omega.{arith}
 use lib.Bits.{bitOr}
 use lib.Dec.{ltb}
 use borrow.Author.Tests.{le-ltb}
+use Rattle.quorum.specs.declared.Quorums.{Quorums}
 use Rattle.quorum.specs.Sets.{setBits, withReplica, countOf, majority, asksEnough, keepsEnough}
 use Rattle.quorum.specs.laws.Bits.{or-bit, same-bits}
 
@@ -24,7 +25,7 @@ replica-counts-once set k = ap countOf (go (ltb k setBits) refl)
     go true e = joined (withReplica set k) e ∙ ap (λ (x : ℕ). bitOr x (2 ^ k)) (joined set e) ∙ twice ∙ sym (joined set e)
     go false e = rw e
 
--- while no more than half of n replicas have answered it is not enough, for an ask or for a keep: those that are silent don't count
-pub half-is-not-enough : (n set : ℕ) → 2 * countOf set ≤ n → (asksEnough n set ≡ false) × (keepsEnough n set ≡ false)
+-- while no more than half of the replicas have answered it is not enough, for an ask or for a keep: those that are silent don't count
+pub half-is-not-enough : (q : Quorums) (set : ℕ) → 2 * countOf set ≤ q .replicas → (asksEnough q set ≡ false) × (keepsEnough q set ≡ false)
 unfolding asksEnough keepsEnough majority
-half-is-not-enough n set few = let e : ltb n (2 * countOf set) ≡ false = le-ltb n (2 * countOf set) few in (e, e)
+half-is-not-enough q set few = let e : ltb (q .replicas) (2 * countOf set) ≡ false = le-ltb (q .replicas) (2 * countOf set) few in (e, e)

@@ -7,6 +7,7 @@ use lib.Count.{ones, trailingZeros}
 use lib.Dec.{eqb, ltb}
 use Rattle.record.specs.declared.Replica.{Replica}
 use Rattle.quorum.specs.Sets.{setBits, hasReplica, withReplica, withoutReplica, countOf, majority, asksEnough, keepsEnough, everyReplica, others, within, lowestOf, restOf}
+use Rattle.quorum.specs.Shared.{four}
 use Rattle.quorum.specs.laws.SetLaws.{same-members, has-with, has-every, has-others}
 use Rattle.quorum.specs.laws.Sheet.{half-of-4, most-of-4, other-three, one-more, not-of-4}
 
@@ -29,18 +30,18 @@ unfolding hasReplica
 not-missing r p q = yes-not-no p q
 
 -- half of four is not enough, three of four are
-pub not-half : (r : Bool) → r ≡ asksEnough 4 0b0101 → r ≡ true → ⊥
+pub not-half : (r : Bool) → r ≡ asksEnough four 0b0101 → r ≡ true → ⊥
 not-half r p q = yes-not-no q (p ∙ half-of-4)
 
-pub not-three-short : (r : Bool) → r ≡ asksEnough 4 0b1101 → r ≡ false → ⊥
+pub not-three-short : (r : Bool) → r ≡ asksEnough four 0b1101 → r ≡ false → ⊥
 unfolding asksEnough majority ones
 not-three-short r p q = yes-not-no p q
 
-pub not-half-kept : (r : Bool) → r ≡ keepsEnough 4 0b0101 → r ≡ true → ⊥
+pub not-half-kept : (r : Bool) → r ≡ keepsEnough four 0b0101 → r ≡ true → ⊥
 unfolding keepsEnough majority ones
 not-half-kept r p q = yes-not-no q p
 
-pub not-short : (r : Bool) → r ≡ keepsEnough 4 0b1101 → r ≡ false → ⊥
+pub not-short : (r : Bool) → r ≡ keepsEnough four 0b1101 → r ≡ false → ⊥
 not-short r p q = yes-not-no (p ∙ most-of-4) q
 
 -- replica 4 is none of four, and replica 3 is one

@@ -9,6 +9,7 @@ use lib.Count.{ones, ones-le, ones-ones}
 use lib.Dec.{ltb, eqb}
 use lib.Pow.{pow-pos, pow-lt, ones-lt}
 use borrow.Author.Tests.{lt-ltb, le-ltb, ltb-true, ltb-false, eq-eqb, eqb-true, eqb-false}
+use Rattle.quorum.specs.declared.Quorums.{Quorums}
 use Rattle.quorum.specs.Sets.{setBits, hasReplica, withReplica, countOf, majority, asksEnough, keepsEnough, everyReplica, others, within, withoutReplica}
 use Rattle.quorum.specs.laws.Bits.{bit, bit-most, bit-none, has-one, has-zero, one-has, zero-has, or-bit, and-bit, left-bit, pow-same, pow-other, and-fresh, and-there}
 use Rattle.quorum.specs.laws.Bits.{all-below, bit-below, same-bits, ones-both, ones-left, ones-one, some-bit}
@@ -159,9 +160,10 @@ unfolding majority
 count-minority n s h = le-ltb n (2 * ones s) h
 
 -- enough for an ask and enough for a keep share a replica
-pub meet : (n a b : ℕ) → a < 2 ^ n → b < 2 ^ n → asksEnough n a ≡ true → keepsEnough n b ≡ true → Shared n a b
+pub meet : (q : Quorums) (a b : ℕ) → a < 2 ^ q .replicas → b < 2 ^ q .replicas → asksEnough q a ≡ true → keepsEnough q b ≡ true → Shared (q .replicas) a b
 unfolding asksEnough keepsEnough
-meet n a b ha hb ea eb =
+meet q a b ha hb ea eb =
+    let n = q .replicas in
     meet-sizes n (countOf a) (countOf b) a b (omega (arith, majority-count n a ea, majority-count n b eb)) ha hb (omega arith) (omega arith)
 
 -- ---- what is enough
@@ -170,11 +172,11 @@ pub least : (n : ℕ) → Least n (n / 2 + 1)
 least n = record { enough = λ s h. count-majority n s (omega arith); fewer = λ s h. count-minority n s (omega arith) }
 
 -- no replica is never enough
-pub none-asks : (n : ℕ) → 1 ≤ n → asksEnough n 0 ≡ false
-none-asks n h = half-is-not-enough n 0 (omega (arith, none-count)) .0
+pub none-asks : (q : Quorums) → 1 ≤ q .replicas → asksEnough q 0 ≡ false
+none-asks q h = half-is-not-enough q 0 (omega (arith, none-count)) .0
 
-pub none-keeps : (n : ℕ) → 1 ≤ n → keepsEnough n 0 ≡ false
-none-keeps n h = half-is-not-enough n 0 (omega (arith, none-count)) .1
+pub none-keeps : (q : Quorums) → 1 ≤ q .replicas → keepsEnough q 0 ≡ false
+none-keeps q h = half-is-not-enough q 0 (omega (arith, none-count)) .1
 
 pub none-has : (k : ℕ) → hasReplica 0 k ≡ false
 none-has k = zero-has 0 k (bit-none k)

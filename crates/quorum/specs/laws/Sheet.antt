@@ -4,7 +4,7 @@ use mathlib.Core.Bool.{true, false}
 use mathlib.Core.Path.{_≡_, refl}
 use lib.Count.{ones}
 use Rattle.quorum.specs.Sets.{hasReplica, withReplica, setBits, asksEnough, keepsEnough, majority, everyReplica, others, within, membersOf, membersFrom}
-use Rattle.quorum.specs.Shared.{Least}
+use Rattle.quorum.specs.Shared.{Least, four}
 use Rattle.quorum.specs.laws.SetLaws.{least}
 
 pub one-of-1 : Least 1 1
@@ -23,11 +23,11 @@ pub eight-of-15 : Least 15 8
 eight-of-15 = least 15
 
 -- two of four are half, and not enough; three are
-pub half-of-4 : asksEnough 4 0b0101 ≡ false
+pub half-of-4 : asksEnough four 0b0101 ≡ false
 unfolding asksEnough majority ones
 half-of-4 = refl
 
-pub most-of-4 : keepsEnough 4 0b1101 ≡ true
+pub most-of-4 : keepsEnough four 0b1101 ≡ true
 unfolding keepsEnough majority ones
 most-of-4 = refl
 

@@ -12,7 +12,7 @@ use Rattle.stamps.specs.declared.Pair.{Pair}
 use Rattle.method.specs.declared.InSlot.{InSlot}
 use Rattle.method.specs.declared.InSlot.the-variants.{Empty, Full}
 use Rattle.method.specs.declared.Party.{Party}
-use Rattle.rack.specs.declared.Sizes.{Sizes}
+use Rattle.rack.specs.declared.Settings.{Settings}
 use Rattle.rack.specs.declared.Rack.{Rack}
 use Rattle.stamps.specs.Stamp.{freshPair}
 use Rattle.method.specs.declared.Sight.{Sight}
@@ -56,18 +56,18 @@ lookedPair r e = getD (r .pairs) (lookedPlace r e) freshPair
 
 -- all that it looks at
 abbrev pub sight : Rack → Event → Sight
-sight r e = record { replicas = r .sizes .replicas; power = r .power; party = lookedParty r e; pair = lookedPair r e }
+sight r e = record { replicas = r .settings .replicas; power = r .power; party = lookedParty r e; pair = lookedPair r e }
 
 -- what it looks at is there, and names only what the rack has
 pub record Looked (r : Rack) (e : Event) : Type 0 where
   pub slot : slotOf e < slotLimit
-  pub client : lookedClient r e < r .sizes .clients
+  pub client : lookedClient r e < r .settings .clients
   pub place : lookedPlace r e < 240
-  pub held : heldFits (r .sizes) (lookedHeld r e) ≡ true
-  pub work : workFits (r .sizes) (lookedParty r e .work) ≡ true
-  pub pair : pairFits (r .sizes) (lookedPair r e) ≡ true
+  pub held : heldFits (r .settings) (lookedHeld r e) ≡ true
+  pub work : workFits (r .settings) (lookedParty r e .work) ≡ true
+  pub pair : pairFits (r .settings) (lookedPair r e) ≡ true
 
-slot-in : (z : Sizes) (e : Event) → inRack z e ≡ true → slotOf e < slotLimit
+slot-in : (z : Settings) (e : Event) → inRack z e ≡ true → slotOf e < slotLimit
 unfolding inRack slotOf
 slot-in z (StartRead client cell) h = omega arith
 slot-in z (StartWrite client cell v) h = omega arith
@@ -80,12 +80,12 @@ slot-in z (Off replica) h = omega arith
 slot-in z (On replica) h = omega arith
 slot-in z Unknown h = omega arith
 
-client-in : (z : Sizes) → Sized z → (held : InSlot) → heldFits z held ≡ true → clientIn held < z .clients
+client-in : (z : Settings) → Sized z → (held : InSlot) → heldFits z held ≡ true → clientIn held < z .clients
 unfolding clientIn heldFits
 client-in z n Empty h = n .some-client
 client-in z n (Full m) h = named z m h .client
 
-client-of : (z : Sizes) → Sized z → (held : InSlot) → heldFits z held ≡ true → (e : Event) → inRack z e ≡ true → clientOf e held < z .clients
+client-of : (z : Settings) → Sized z → (held : InSlot) → heldFits z held ≡ true → (e : Event) → inRack z e ≡ true → clientOf e held < z .clients
 unfolding inRack clientOf
 client-of z n held h (StartRead client cell) i = ltb-true (client .0) (z .clients) (and-left (ltb (client .0) (z .clients)) (ltb (cell .0) (z .cells)) i)
 client-of z n held h (StartWrite client cell v) i = ltb-true (client .0) (z .clients) (and-left (ltb (client .0) (z .clients)) (ltb (cell .0) (z .cells)) i)
@@ -98,25 +98,25 @@ client-of z n held h (Off replica) i = n .some-client
 client-of z n held h (On replica) i = n .some-client
 client-of z n held h Unknown i = n .some-client
 
-place-in : (z : Sizes) → Sized z → (held : InSlot) → heldFits z held ≡ true → placeIn held < 240
+place-in : (z : Settings) → Sized z → (held : InSlot) → heldFits z held ≡ true → placeIn held < 240
 unfolding placeIn heldFits
 place-in z n Empty h = omega arith
 place-in z n (Full m) h = let q = named z m h in omega (arith, q .replica, q .cell, n .replicas, n .cells)
 
-pair-in : (r : Rack) → Sound r → (held : InSlot) → heldFits (r .sizes) held ≡ true → pairFits (r .sizes) (getD (r .pairs) (placeIn held) freshPair) ≡ true
+pair-in : (r : Rack) → Sound r → (held : InSlot) → heldFits (r .settings) held ≡ true → pairFits (r .settings) (getD (r .pairs) (placeIn held) freshPair) ≡ true
 unfolding placeIn heldFits
-pair-in r s Empty h = s .pairs 0 0 (s .sizes .some-replica) (s .sizes .some-cell)
-pair-in r s (Full m) h = let q = named (r .sizes) m h in s .pairs (m .replica .0) (m .cell .0) (q .replica) (q .cell)
+pair-in r s Empty h = s .pairs 0 0 (s .settings .some-replica) (s .settings .some-cell)
+pair-in r s (Full m) h = let q = named (r .settings) m h in s .pairs (m .replica .0) (m .cell .0) (q .replica) (q .cell)
 
-pub looked : (r : Rack) → Sound r → (e : Event) → inRack (r .sizes) e ≡ true → Looked r e
+pub looked : (r : Rack) → Sound r → (e : Event) → inRack (r .settings) e ≡ true → Looked r e
 looked r s e i =
-    let hs = slot-in (r .sizes) e i in
+    let hs = slot-in (r .settings) e i in
     let hh = s .slots (slotOf e) hs in
-    let hc = client-of (r .sizes) (s .sizes) (lookedHeld r e) hh e i in
+    let hc = client-of (r .settings) (s .settings) (lookedHeld r e) hh e i in
     record {
       slot = hs;
       client = hc;
-      place = place-in (r .sizes) (s .sizes) (lookedHeld r e) hh;
+      place = place-in (r .settings) (s .settings) (lookedHeld r e) hh;
       held = hh;
       work = s .parties (lookedClient r e) hc;
       pair = pair-in r s (lookedHeld r e) hh;
@@ -157,9 +157,9 @@ checked-go (Go q) taken room p h e =
 
 -- what holds where p is the plan of an event that is done: it is of this rack, and what it leaves and sends fits
 pub record Decided (r : Rack) (e : Event) (p : Plan) : Type 0 where
-  pub inside : inRack (r .sizes) e ≡ true
+  pub inside : inRack (r .settings) e ≡ true
   pub looked : Looked r e
-  pub fits : PlanFits (r .sizes) (lookedParty r e) (lookedHeld r e) p
+  pub fits : PlanFits (r .settings) (lookedParty r e) (lookedHeld r e) p
   pub entries : r .count + entriesIn (p .note) + owed r + owedBy (p .party) ≤ entryLimit + owedBy (lookedParty r e)
   pub room : ones (p .to) ≤ roomOf (r .wire) + freed (p .clear)
 
@@ -172,12 +172,12 @@ pub decided-fits : (r : Rack) (e : Event) (p : Plan) → soundOf r ≡ true → 
 unfolding decided
 decided-fits r e p h d =
     let s = sound-of r h in
-    let a = in-go (inRack (r .sizes) e) (checked (planOf (sight r e) (lookedHeld r e) e) (r .count + owed r) (roomOf (r .wire))) p d in
+    let a = in-go (inRack (r .settings) e) (checked (planOf (sight r e) (lookedHeld r e) e) (r .count + owed r) (roomOf (r .wire))) p d in
     let l = looked r s e (a .0) in
     let c = checked-go (planOf (sight r e) (lookedHeld r e) e) (r .count + owed r) (roomOf (r .wire)) p (s .entries) (a .1) in
-    let f : OutcomeFits (r .sizes) (lookedParty r e) (lookedHeld r e) (Go p) =
-    subst (OutcomeFits (r .sizes) (lookedParty r e) (lookedHeld r e)) (c .same)
-    (plan-fits (r .sizes) (s .sizes) (r .power) (lookedParty r e) (lookedPair r e) (l .work) (l .pair) (lookedHeld r e) (l .held) e (a .0)) in
+    let f : OutcomeFits (r .settings) (lookedParty r e) (lookedHeld r e) (Go p) =
+    subst (OutcomeFits (r .settings) (lookedParty r e) (lookedHeld r e)) (c .same)
+    (plan-fits (r .settings) (s .settings) (r .power) (lookedParty r e) (lookedPair r e) (l .work) (l .pair) (lookedHeld r e) (l .held) e (a .0)) in
     record {
       inside = a .0;
       looked = l;

@@ -4,12 +4,12 @@ use mathlib.Core.Path.{_≡_, refl, ap}
 use mathlib.Core.Bool.{Bool, true, false, cond}
 use native.Mathlib.Omega.{arith}
 use lib.ListN.{getD-replicate}
-use Rattle.rack.specs.declared.Sizes.{Sizes}
+use Rattle.rack.specs.declared.Settings.{Settings}
 use Rattle.method.specs.declared.Party.{Party}
 use Rattle.rack.specs.declared.Made.{Made}
 use Rattle.stamps.specs.Stamp.{freshPair}
 use Rattle.rack.specs.Places.{slotLimit, empty, idle, partyAt, pairAt, pairPlace, heldAt}
-use Rattle.rack.specs.Sound.{sizesFit, pairFits, heldFits, workFits, owes, owedBy, owedIn, owed, soundOf}
+use Rattle.rack.specs.Sound.{settingsFit, pairFits, heldFits, workFits, owes, owedBy, owedIn, owed, soundOf}
 use Rattle.rack.specs.Run.{freshRack, madeOf}
 use Rattle.rack.specs.laws.SoundLaws.{Sized, sized, rank-fits, of-sound}
 
@@ -20,8 +20,8 @@ madeIf t replicas clients cells =
 
 module _ (replicas clients cells : ℕ) where
   -- the three sizes that the maker is given
-  abbrev sizes : Sizes
-  sizes = record { replicas = replicas; clients = clients; cells = cells }
+  abbrev sizes : Settings
+  settings = record { replicas = replicas; clients = clients; cells = cells }
 
   slot : (i : ℕ) → i < slotLimit → heldFits sizes (heldAt (freshRack replicas clients cells) i) ≡ true
   unfolding freshRack heldFits
@@ -47,13 +47,13 @@ module _ (replicas clients cells : ℕ) where
       let e : owedBy (partyAt (freshRack replicas clients cells) n) ≡ 0 = ap owedBy (party n (omega arith)) in
       omega (arith, nothing-owed n (omega arith))
 
-  pub fresh-sound : sizesFit (record { replicas = replicas; clients = clients; cells = cells }) ≡ true → soundOf (freshRack replicas clients cells) ≡ true
+  pub fresh-sound : settingsFit (record { replicas = replicas; clients = clients; cells = cells }) ≡ true → soundOf (freshRack replicas clients cells) ≡ true
   unfolding freshRack owed
   fresh-sound e =
       let n = sized sizes e in
       of-sound (freshRack replicas clients cells)
       (record {
-        sizes = n;
+        settings = n;
         slots = slot;
         pairs = pair n;
         parties = λ i h. work i (omega (arith, n .clients));
@@ -62,10 +62,10 @@ module _ (replicas clients cells : ℕ) where
 
 -- what the maker gives is sound, whatever the sizes
 pub made-sound : (replicas clients cells : ℕ) → soundOf (madeOf replicas clients cells .rack) ≡ true
-unfolding madeOf sizesFit
-made-sound replicas clients cells = go (sizesFit (record { replicas = replicas; clients = clients; cells = cells })) refl
+unfolding madeOf settingsFit
+made-sound replicas clients cells = go (settingsFit (record { replicas = replicas; clients = clients; cells = cells })) refl
   where
-    go : (t : Bool) → sizesFit (record { replicas = replicas; clients = clients; cells = cells }) ≡ t
+    go : (t : Bool) → settingsFit (record { replicas = replicas; clients = clients; cells = cells }) ≡ t
         → soundOf (madeIf t replicas clients cells .rack) ≡ true
     go true e = fresh-sound replicas clients cells e
     go false e = fresh-sound 1 1 1 refl

@@ -16,7 +16,7 @@ use Rattle.method.specs.declared.Event.the-variants.{StartRead, StartWrite, Del
 use Rattle.rack.specs.declared.Made.{Made}
 use Rattle.method.specs.Plan.{activeParty}
 use Rattle.rack.specs.Places.{idle}
-use Rattle.rack.specs.Sound.{sizesFit, pairFits, bodyFits, messageFits, heldFits, workFits, owes, owedBy, soundOf, owedIn}
+use Rattle.rack.specs.Sound.{settingsFit, pairFits, bodyFits, messageFits, heldFits, workFits, owes, owedBy, soundOf, owedIn}
 use Rattle.rack.specs.Run.{freshRack, madeOf, byte, eventOf}
 use Rattle.rack.specs.laws.Fresh.{fresh-sound}
 use Rattle.rack.specs.Answers.{kindIn, firstIn, cellIn, valueIn}
@@ -46,12 +46,12 @@ not-client-256 r p q = let e : kindIn r ≡ 9 = ap kindIn p in omega arith
 
 -- ---- sizes_in
 
-pub not-16-replicas : (r : Bool) → r ≡ sizesFit (record { replicas = 16; clients = 8; cells = 16 }) → r ≡ true → ⊥
-unfolding sizesFit
+pub not-16-replicas : (r : Bool) → r ≡ settingsFit (record { replicas = 16; clients = 8; cells = 16 }) → r ≡ true → ⊥
+unfolding settingsFit
 not-16-replicas r p q = yes-not-no q p
 
-pub not-15-too-many : (r : Bool) → r ≡ sizesFit (record { replicas = 15; clients = 8; cells = 16 }) → r ≡ false → ⊥
-unfolding sizesFit
+pub not-15-too-many : (r : Bool) → r ≡ settingsFit (record { replicas = 15; clients = 8; cells = 16 }) → r ≡ false → ⊥
+unfolding settingsFit
 not-15-too-many r p q = yes-not-no p q
 
 -- ---- soundness::sound, part by part: pairs, messages, slots
@@ -129,11 +129,11 @@ not-none-owes r p q = let e : r ≡ 1 = p in omega arith
 -- ---- the whole rack
 
 pub not-fresh-unsound : (r : Bool) → r ≡ soundOf (freshRack 15 8 16) → r ≡ false → ⊥
-unfolding sizesFit
+unfolding settingsFit
 not-fresh-unsound r p q = yes-not-no (p ∙ fresh-sound 15 8 16 refl) q
 
 pub not-16-sound : (r : Bool) → r ≡ soundOf (freshRack 16 8 16) → r ≡ true → ⊥
-unfolding soundOf sizesFit freshRack
+unfolding soundOf settingsFit freshRack
 not-16-sound r p q = yes-not-no q p
 
 -- ---- Rack::made
@@ -145,16 +145,16 @@ one-made replicas clients cells r r′ p q =
 
 -- 15, 8, 16 are made; 16, 8, 16 is refused, and beside it stands no rack of 16 replicas
 pub not-15-refused : (r : Made) → r ≡ madeOf 15 8 16 → r .refusal ≡ 1 → ⊥
-unfolding madeOf sizesFit
+unfolding madeOf settingsFit
 not-15-refused r p q = let e : r .refusal ≡ 0 = ap (λ (x : Made). x .refusal) p in omega arith
 
 pub not-16-made : (r : Made) → r ≡ madeOf 16 8 16 → r .refusal ≡ 0 → ⊥
-unfolding madeOf sizesFit
+unfolding madeOf settingsFit
 not-16-made r p q = let e : r .refusal ≡ 1 = ap (λ (x : Made). x .refusal) p in omega arith
 
-pub not-beside-16 : (r : Made) → r ≡ madeOf 16 8 16 → r .rack .sizes .replicas ≡ 16 → ⊥
-unfolding madeOf sizesFit freshRack
-not-beside-16 r p q = let e : r .rack .sizes .replicas ≡ 1 = ap (λ (x : Made). x .rack .sizes .replicas) p in omega arith
+pub not-beside-16 : (r : Made) → r ≡ madeOf 16 8 16 → r .rack .settings .replicas ≡ 16 → ⊥
+unfolding madeOf settingsFit freshRack
+not-beside-16 r p q = let e : r .rack .settings .replicas ≡ 1 = ap (λ (x : Made). x .rack .settings .replicas) p in omega arith
 
 -- ---- what answers say
 

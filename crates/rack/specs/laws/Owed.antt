@@ -16,7 +16,7 @@ use Rattle.rack.specs.Places.{idle}
 use Rattle.rack.specs.Sound.{owes, owedBy, owedIn, owed}
 
 -- the answers that a rack owes are those of its clients
-pub owed-in : (r : Rack) → owed r ≡ owedIn (r .sizes .clients) (r .parties)
+pub owed-in : (r : Rack) → owed r ≡ owedIn (r .settings .clients) (r .parties)
 unfolding owed
 owed-in r = refl
 

@@ -24,7 +24,7 @@ use Rattle.method.specs.declared.Goal.the-variants.{Read, Write}
 use Rattle.method.specs.declared.Work.{Work}
 use Rattle.method.specs.declared.Work.the-variants.{Idle, Asking, Keeping}
 use Rattle.method.specs.declared.Party.{Party}
-use Rattle.rack.specs.declared.Sizes.{Sizes}
+use Rattle.rack.specs.declared.Settings.{Settings}
 use Rattle.stamps.specs.Stamp.{stampLess, freshPair, raised}
 use Rattle.method.specs.declared.Sight.{Sight}
 use Rattle.method.specs.declared.Event.{Event}
@@ -50,7 +50,7 @@ keptFor (Asked e) = 2
 keptFor (Ended e) = 0
 
 -- a plan in a rack of sizes z, for an event that looked at a client and a slot
-pub record PlanFits (z : Sizes) (party : Party) (held : InSlot) (p : Plan) : Type 0 where
+pub record PlanFits (z : Settings) (party : Party) (held : InSlot) (p : Plan) : Type 0 where
   pub work : workFits z (p .party .work) ≡ true
   pub pair : pairFits z (p .pair) ≡ true
   pub to : within (z .replicas) (p .to) ≡ true
@@ -59,7 +59,7 @@ pub record PlanFits (z : Sizes) (party : Party) (held : InSlot) (p : Plan) : Typ
   pub slot : p .clear ≡ true → isEmpty held ≡ false
 
 -- what holds of an outcome: of a refusal nothing, of a plan that it fits
-abbrev pub OutcomeFits : Sizes → Party → InSlot → Decision → Type 0
+abbrev pub OutcomeFits : Settings → Party → InSlot → Decision → Type 0
 OutcomeFits z party held (No k) = Unit {0}
 OutcomeFits z party held (Go p) = PlanFits z party held p
 
@@ -67,14 +67,14 @@ no-slot : (held : InSlot) → false ≡ true → isEmpty held ≡ false
 no-slot held e = never e
 
 -- what is sent, whoever it goes to
-sends : (z : Sizes) (client : Client) (cell : Cell) (op : ℕ) (body : Body) → client .0 < z .clients → cell .0 < z .cells → bodyFits z body ≡ true
+sends : (z : Settings) (client : Client) (cell : Cell) (op : ℕ) (body : Body) → client .0 < z .clients → cell .0 < z .cells → bodyFits z body ≡ true
     → (k : ℕ) → k < z .replicas → messageFits z (messageOf client (record { 0 = k }) cell op body) ≡ true
 sends z client cell op body hc hx hb k hk =
     message-fits z (messageOf client (record { 0 = k }) cell op body) (record { client = hc; replica = hk; cell = hx; body = hb })
 
 -- ---- pairs
 
-raised-fits : (z : Sizes) (p q : Pair) → pairFits z p ≡ true → pairFits z q ≡ true → pairFits z (raised p q) ≡ true
+raised-fits : (z : Settings) (p q : Pair) → pairFits z p ≡ true → pairFits z q ≡ true → pairFits z (raised p q) ≡ true
 unfolding raised
 raised-fits z p q hp hq = go (stampLess (p .stamp) (q .stamp))
   where
@@ -82,7 +82,7 @@ raised-fits z p q hp hq = go (stampLess (p .stamp) (q .stamp))
     go true = hq
     go false = hp
 
-holds-fits : (z : Sizes) (set : ℕ) (held q : Pair) → (set ≡ 0) ⊎ (pairFits z held ≡ true) → pairFits z q ≡ true → pairFits z (holds set held q) ≡ true
+holds-fits : (z : Settings) (set : ℕ) (held q : Pair) → (set ≡ 0) ⊎ (pairFits z held ≡ true) → pairFits z q ≡ true → pairFits z (holds set held q) ≡ true
 unfolding holds
 holds-fits z set held q h hq = go (eqb set 0) refl
   where
@@ -92,7 +92,7 @@ holds-fits z set held q h hq = go (eqb set 0) refl
 
 -- ---- an event's outcome, from a client and a pair that fit
 
-module _ (z : Sizes) (n : Sized z) (power : ℕ) (party : Party) (pair : Pair) (work : workFits z (party .work) ≡ true) (here : pairFits z pair ≡ true) where
+module _ (z : Settings) (n : Sized z) (power : ℕ) (party : Party) (pair : Pair) (work : workFits z (party .work) ≡ true) (here : pairFits z pair ≡ true) where
   -- what the event looks at: the number of replicas, the power, the client and the pair
   abbrev seen : Sight
   seen = record { replicas = z .replicas; power = power; party = party; pair = pair }

@@ -142,7 +142,7 @@ checked-refuses (Go p) taken room k e =
 
 pub decided-refuses : (r : Rack) (e : Event) (k : ℕ) → decided r e ≡ No k → (3 ≤ k) × (k ≤ 13)
 unfolding decided
-decided-refuses r e k d = go (inRack (r .sizes) e) d
+decided-refuses r e k d = go (inRack (r .settings) e) d
   where
     either-way : (planOf (sight r e) (lookedHeld r e) e ≡ No k) ⊎ ((k ≡ 11) ⊎ (k ≡ 13)) → (3 ≤ k) × (k ≤ 13)
     either-way (inl w) = ⊎-elim (λ (x : (3 ≤ k) × (k ≤ 10)). (x .0, omega arith)) (λ (x : k ≡ 12). (omega arith, omega arith)) (plan-refuses (sight r e) (lookedHeld r e) e k w)

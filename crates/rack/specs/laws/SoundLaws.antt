@@ -14,17 +14,17 @@ use Rattle.stamps.specs.declared.Pair.{Pair}
 use Rattle.method.specs.declared.Message.{Message}
 use Rattle.method.specs.declared.Goal.{Goal}
 use Rattle.method.specs.declared.Work.the-variants.{Asking, Keeping}
-use Rattle.rack.specs.declared.Sizes.{Sizes}
+use Rattle.rack.specs.declared.Settings.{Settings}
 use Rattle.rack.specs.declared.Rack.{Rack}
 use Rattle.rack.specs.Places.{slotLimit, partyAt, pairAt, heldAt}
-use Rattle.rack.specs.Sound.{allBelow, sizesFit, pairFits, bodyFits, messageFits, heldFits, workFits, owed, wireFits, pairsFit, partiesFit, recordFits, soundOf}
+use Rattle.rack.specs.Sound.{allBelow, settingsFit, pairFits, bodyFits, messageFits, heldFits, workFits, owed, wireFits, pairsFit, partiesFit, recordFits, soundOf}
 use Rattle.method.specs.laws.Tests.{and-left, and-right, and-true, or-cases, or-left, or-right}
 use Rattle.rack.specs.laws.Tests.{all-at, all-of}
 
 -- ---- sizes
 
 -- 1 to 15 replicas, 1 to 8 clients and 1 to 16 cells
-pub record Sized (z : Sizes) : Type 0 where
+pub record Sized (z : Settings) : Type 0 where
   pub some-replica : 1 ≤ z .replicas
   pub replicas : z .replicas ≤ 15
   pub some-client : 1 ≤ z .clients
@@ -32,8 +32,8 @@ pub record Sized (z : Sizes) : Type 0 where
   pub some-cell : 1 ≤ z .cells
   pub cells : z .cells ≤ 16
 
-pub sized : (z : Sizes) → sizesFit z ≡ true → Sized z
-unfolding sizesFit
+pub sized : (z : Settings) → settingsFit z ≡ true → Sized z
+unfolding settingsFit
 sized z e =
     let a : Bool = leb 1 (z .replicas) && leb (z .replicas) 15 in
     let b : Bool = leb 1 (z .clients) && leb (z .clients) 8 in
@@ -50,8 +50,8 @@ sized z e =
       cells = leb-true (z .cells) 16 (and-right (leb 1 (z .cells)) (leb (z .cells) 16) ec);
     }
 
-pub sizes-fit : (z : Sizes) → Sized z → sizesFit z ≡ true
-unfolding sizesFit
+pub sizes-fit : (z : Settings) → Sized z → settingsFit z ≡ true
+unfolding settingsFit
 sizes-fit z s =
     and-true _ _
     (and-true _ _ (le-leb 1 (z .replicas) (s .some-replica)) (le-leb (z .replicas) 15 (s .replicas)))
@@ -60,26 +60,26 @@ sizes-fit z s =
     (and-true _ _ (le-leb 1 (z .cells) (s .some-cell)) (le-leb (z .cells) 16 (s .cells))))
 
 -- a set has a bit for each replica
-pub bits-enough : (z : Sizes) → Sized z → z .replicas ≤ setBits
+pub bits-enough : (z : Settings) → Sized z → z .replicas ≤ setBits
 unfolding setBits
 bits-enough z s = omega (arith, s .replicas)
 
 -- ---- ranks
 
-pub rank-fits : (z : Sizes) (p : Pair) → p .stamp .rank < z .clients → pairFits z p ≡ true
+pub rank-fits : (z : Settings) (p : Pair) → p .stamp .rank < z .clients → pairFits z p ≡ true
 unfolding pairFits
 rank-fits z p h = lt-ltb (p .stamp .rank) _ (omega (arith, h))
 
 -- ---- messages
 
 -- the message names a client, a replica, a cell and a rank that the rack has
-pub record Named (z : Sizes) (m : Message) : Type 0 where
+pub record Named (z : Settings) (m : Message) : Type 0 where
   pub client : m .client .0 < z .clients
   pub replica : m .replica .0 < z .replicas
   pub cell : m .cell .0 < z .cells
   pub body : bodyFits z (m .body) ≡ true
 
-pub named : (z : Sizes) (m : Message) → messageFits z m ≡ true → Named z m
+pub named : (z : Settings) (m : Message) → messageFits z m ≡ true → Named z m
 unfolding messageFits
 named z m e =
     let a : Bool = ltb (m .client .0) (z .clients) in
@@ -95,7 +95,7 @@ named z m e =
       body = and-right c d second;
     }
 
-pub message-fits : (z : Sizes) (m : Message) → Named z m → messageFits z m ≡ true
+pub message-fits : (z : Settings) (m : Message) → Named z m → messageFits z m ≡ true
 unfolding messageFits
 message-fits z m n =
     and-true _ _
@@ -105,13 +105,13 @@ message-fits z m n =
 -- ---- open operations
 
 -- in the ask phase: cell x and, once a tell is held, pair p are of this rack, and the set s has its replicas only and no majority
-pub record AskOpen (z : Sizes) (x : Cell) (s : ℕ) (p : Pair) : Type 0 where
+pub record AskOpen (z : Settings) (x : Cell) (s : ℕ) (p : Pair) : Type 0 where
   pub cell : x .0 < z .cells
   pub held : (s ≡ 0) ⊎ (pairFits z p ≡ true)
   pub set : within (z .replicas) s ≡ true
   pub few : asksEnough (z .replicas) s ≡ false
 
-pub ask-open : (z : Sizes) (cell : Cell) (goal : Goal) (set : ℕ) (held : Pair) → workFits z (Asking cell goal set held) ≡ true → AskOpen z cell set held
+pub ask-open : (z : Settings) (cell : Cell) (goal : Goal) (set : ℕ) (held : Pair) → workFits z (Asking cell goal set held) ≡ true → AskOpen z cell set held
 unfolding workFits
 ask-open z cell goal set held e =
     let a : Bool = ltb (cell .0) (z .cells) in
@@ -127,7 +127,7 @@ ask-open z cell goal set held e =
       few = not-true (asksEnough (z .replicas) set) (and-right c d second);
     }
 
-pub ask-fits : (z : Sizes) (cell : Cell) (goal : Goal) (set : ℕ) (held : Pair) → AskOpen z cell set held → workFits z (Asking cell goal set held) ≡ true
+pub ask-fits : (z : Settings) (cell : Cell) (goal : Goal) (set : ℕ) (held : Pair) → AskOpen z cell set held → workFits z (Asking cell goal set held) ≡ true
 unfolding workFits
 ask-fits z cell goal set held a =
     and-true _ _
@@ -138,13 +138,13 @@ ask-fits z cell goal set held a =
     (and-true _ _ (a .set) (ap not (a .few)))
 
 -- in the keep phase: cell x and pair p are of this rack, and the set s has its replicas only and no majority
-pub record KeepOpen (z : Sizes) (x : Cell) (s : ℕ) (p : Pair) : Type 0 where
+pub record KeepOpen (z : Settings) (x : Cell) (s : ℕ) (p : Pair) : Type 0 where
   pub cell : x .0 < z .cells
   pub held : pairFits z p ≡ true
   pub set : within (z .replicas) s ≡ true
   pub few : keepsEnough (z .replicas) s ≡ false
 
-pub keep-open : (z : Sizes) (cell : Cell) (goal : Goal) (set : ℕ) (held : Pair) → workFits z (Keeping cell goal set held) ≡ true → KeepOpen z cell set held
+pub keep-open : (z : Settings) (cell : Cell) (goal : Goal) (set : ℕ) (held : Pair) → workFits z (Keeping cell goal set held) ≡ true → KeepOpen z cell set held
 unfolding workFits
 keep-open z cell goal set held e =
     let a : Bool = ltb (cell .0) (z .cells) in
@@ -160,7 +160,7 @@ keep-open z cell goal set held e =
       few = not-true (keepsEnough (z .replicas) set) (and-right c d second);
     }
 
-pub keep-fits : (z : Sizes) (cell : Cell) (goal : Goal) (set : ℕ) (held : Pair) → KeepOpen z cell set held → workFits z (Keeping cell goal set held) ≡ true
+pub keep-fits : (z : Settings) (cell : Cell) (goal : Goal) (set : ℕ) (held : Pair) → KeepOpen z cell set held → workFits z (Keeping cell goal set held) ≡ true
 unfolding workFits
 keep-fits z cell goal set held a =
     and-true _ _ (and-true _ _ (lt-ltb (cell .0) (z .cells) (a .cell)) (a .held)) (and-true _ _ (a .set) (ap not (a .few)))
@@ -169,16 +169,16 @@ keep-fits z cell goal set held a =
 
 -- every part is sound: the sizes, the wire, the pairs, the open operations, and entries + answers owed
 pub record Sound (r : Rack) : Type 0 where
-  pub sizes : Sized (r .sizes)
-  pub slots : (i : ℕ) → i < slotLimit → heldFits (r .sizes) (heldAt r i) ≡ true
-  pub pairs : (k x : ℕ) → k < r .sizes .replicas → x < r .sizes .cells → pairFits (r .sizes) (pairAt r k x) ≡ true
-  pub parties : (i : ℕ) → i < r .sizes .clients → workFits (r .sizes) (partyAt r i .work) ≡ true
+  pub sizes : Sized (r .settings)
+  pub slots : (i : ℕ) → i < slotLimit → heldFits (r .settings) (heldAt r i) ≡ true
+  pub pairs : (k x : ℕ) → k < r .settings .replicas → x < r .settings .cells → pairFits (r .settings) (pairAt r k x) ≡ true
+  pub parties : (i : ℕ) → i < r .settings .clients → workFits (r .settings) (partyAt r i .work) ≡ true
   pub entries : r .count + owed r ≤ entryLimit
 
 pub sound-of : (r : Rack) → soundOf r ≡ true → Sound r
 unfolding soundOf wireFits pairsFit partiesFit recordFits
 sound-of r e =
-    let a : Bool = sizesFit (r .sizes) in
+    let a : Bool = settingsFit (r .settings) in
     let b : Bool = wireFits r in
     let c : Bool = pairsFit r in
     let d : Bool = partiesFit r in
@@ -187,23 +187,23 @@ sound-of r e =
     let ec : (c && (d && f)) ≡ true = and-right b (c && (d && f)) eb in
     let ed : (d && f) ≡ true = and-right c (d && f) ec in
     record {
-      sizes = sized (r .sizes) (and-left a (b && (c && (d && f))) e);
-      slots = all-at slotLimit (λ i. heldFits (r .sizes) (heldAt r i)) (and-left b (c && (d && f)) eb);
+      settings = sized (r .settings) (and-left a (b && (c && (d && f))) e);
+      slots = all-at slotLimit (λ i. heldFits (r .settings) (heldAt r i)) (and-left b (c && (d && f)) eb);
       pairs = λ k x hk hx.
-          all-at (r .sizes .cells) (λ y. pairFits (r .sizes) (pairAt r k y))
-          (all-at (r .sizes .replicas) (λ j. allBelow (r .sizes .cells) (λ y. pairFits (r .sizes) (pairAt r j y))) (and-left c (d && f) ec) k hk) x hx;
-      parties = all-at (r .sizes .clients) (λ i. workFits (r .sizes) (partyAt r i .work)) (and-left d f ed);
+          all-at (r .settings .cells) (λ y. pairFits (r .settings) (pairAt r k y))
+          (all-at (r .settings .replicas) (λ j. allBelow (r .settings .cells) (λ y. pairFits (r .settings) (pairAt r j y))) (and-left c (d && f) ec) k hk) x hx;
+      parties = all-at (r .settings .clients) (λ i. workFits (r .settings) (partyAt r i .work)) (and-left d f ed);
       entries = leb-true (r .count + owed r) entryLimit (and-right d f ed);
     }
 
 pub of-sound : (r : Rack) → Sound r → soundOf r ≡ true
 unfolding soundOf wireFits pairsFit partiesFit recordFits
 of-sound r s =
-    and-true _ _ (sizes-fit (r .sizes) (s .sizes))
-    (and-true _ _ (all-of slotLimit (λ i. heldFits (r .sizes) (heldAt r i)) (s .slots))
+    and-true _ _ (sizes-fit (r .settings) (s .settings))
+    (and-true _ _ (all-of slotLimit (λ i. heldFits (r .settings) (heldAt r i)) (s .slots))
     (and-true _ _
-    (all-of (r .sizes .replicas) (λ j. allBelow (r .sizes .cells) (λ y. pairFits (r .sizes) (pairAt r j y)))
-    (λ k hk. all-of (r .sizes .cells) (λ y. pairFits (r .sizes) (pairAt r k y)) (λ x hx. s .pairs k x hk hx)))
+    (all-of (r .settings .replicas) (λ j. allBelow (r .settings .cells) (λ y. pairFits (r .settings) (pairAt r j y)))
+    (λ k hk. all-of (r .settings .cells) (λ y. pairFits (r .settings) (pairAt r k y)) (λ x hx. s .pairs k x hk hx)))
     (and-true _ _
-    (all-of (r .sizes .clients) (λ i. workFits (r .sizes) (partyAt r i .work)) (s .parties))
+    (all-of (r .settings .clients) (λ i. workFits (r .settings) (partyAt r i .work)) (s .parties))
     (le-leb (r .count + owed r) entryLimit (s .entries)))))

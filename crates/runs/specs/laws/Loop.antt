@@ -45,7 +45,7 @@ cleared-long false j w = refl
 
 pub applied-wire : (r : Rack) (e : Event) (p : Plan) → length (appliedOf r e p .wire) ≡ length (r .wire)
 unfolding appliedOf
-applied-wire r e p = sent-long _ (addressed (p .message) (membersOf (r .sizes .replicas) (p .to))) ∙ cleared-long (p .clear) (slotOf e) (r .wire)
+applied-wire r e p = sent-long _ (addressed (p .message) (membersOf (r .settings .replicas) (p .to))) ∙ cleared-long (p .clear) (slotOf e) (r .wire)
 
 pub applied-parties : (r : Rack) (e : Event) (p : Plan) → length (appliedOf r e p .parties) ≡ length (r .parties)
 unfolding appliedOf
@@ -62,10 +62,10 @@ pub room-after : (r : Rack) (e : Event) (p : Plan) → Decided r e p → length 
 unfolding appliedOf freeAt
 room-after r e p d l =
     let w : List Slot = cleared (p .clear) (slotOf e) (r .wire) in
-    let ms : List Message = addressed (p .message) (membersOf (r .sizes .replicas) (p .to)) in
+    let ms : List Message = addressed (p .message) (membersOf (r .settings .replicas) (p .to)) in
     let c : roomOf w ≡ roomOf (r .wire) + freed (p .clear) = cleared-room (p .clear) (slotOf e) (r .wire) (d .looked .slot) l (d .fits .slot) in
     let o : length ms ≡ ones (p .to) =
-    addressed-count (p .message) (membersOf (r .sizes .replicas) (p .to)) ∙ members-count (r .sizes .replicas) (p .to) (within-below (r .sizes .replicas) (p .to) (d .fits .to)) in
+    addressed-count (p .message) (membersOf (r .settings .replicas) (p .to)) ∙ members-count (r .settings .replicas) (p .to) (within-below (r .settings .replicas) (p .to) (d .fits .to)) in
     let b : length ms ≤ roomOf w = omega (arith, o, c, d .room) in
     omega (arith, sent-room w ms (cleared-long (p .clear) (slotOf e) (r .wire) ∙ l) b, o, c)
 
@@ -125,30 +125,30 @@ module _ (self : Rack) (allowance : ℕ) (ws : List ℕ) (r : Rack) (free : List
   going-no e ee k n d m h = sym (next e ee (No k) d (omega (arith, m .below)) (omega (arith, m .whole)))
 
   -- a number that is not in this rack
-  pub not-there : (e : Event) → inRack (r .sizes) e ≡ false → decided r e ≡ No 3
+  pub not-there : (e : Event) → inRack (r .settings) e ≡ false → decided r e ≡ No 3
   unfolding decided
   not-there e h = rw h
 
-  pub there-slot : (e : Event) (j : ℕ) → inRack (r .sizes) e ≡ true → j ≡ slotOf e → j < 256
+  pub there-slot : (e : Event) (j : ℕ) → inRack (r .settings) e ≡ true → j ≡ slotOf e → j < 256
   there-slot e j h ej = rw ej (looked r (sound-of r (g .sound)) e h .slot)
 
-  pub there : (e : Event) (j c a : ℕ) → inRack (r .sizes) e ≡ true → j ≡ slotOf e → c ≡ clientOf e (heldIn (r .wire) j) → a ≡ placeIn (heldIn (r .wire) j) → There j c a
+  pub there : (e : Event) (j c a : ℕ) → inRack (r .settings) e ≡ true → j ≡ slotOf e → c ≡ clientOf e (heldIn (r .wire) j) → a ≡ placeIn (heldIn (r .wire) j) → There j c a
   there e j c a h ej ec ea =
       let l : Looked r e = looked r (sound-of r (g .sound)) e h in
       let kc : c ≡ lookedClient r e = rw ej at ec in
       let ka : a ≡ lookedPlace r e = rw ej at ea in
-      record { slot = there-slot e j h ej; client = omega (arith, l .client, sound-of r (g .sound) .sizes .clients); pair = omega (arith, l .place) }
+      record { slot = there-slot e j h ej; client = omega (arith, l .client, sound-of r (g .sound) .settings .clients); pair = omega (arith, l .place) }
 
   -- the outcome is the definition's
-  pub going-plan : (e : Event) (j c a : ℕ) (q o : Decision) → inRack (r .sizes) e ≡ true → j ≡ slotOf e → c ≡ clientOf e (heldIn (r .wire) j)
+  pub going-plan : (e : Event) (j c a : ℕ) (q o : Decision) → inRack (r .settings) e ≡ true → j ≡ slotOf e → c ≡ clientOf e (heldIn (r .wire) j)
       → a ≡ placeIn (heldIn (r .wire) j)
       → q ≡ planOf (record {
-        replicas = r .sizes .replicas;
+        replicas = r .settings .replicas;
         power = r .power;
         party = getD (r .parties) c idle;
         pair = getD (r .pairs) a freshPair;
       }) (heldIn (r .wire) j) e
-      → o ≡ checked q (r .count + owedIn (r .sizes .clients) (r .parties)) room → decided r e ≡ o
+      → o ≡ checked q (r .count + owedIn (r .settings .clients) (r .parties)) room → decided r e ≡ o
   unfolding decided
   going-plan e j c a q o h ej ec ea eq eo = sym (eo ∙ rw (eq, h, g .rooms, ← owed-in r, ec, ea, ej))
 
@@ -160,12 +160,12 @@ module _ (self : Rack) (allowance : ℕ) (ws : List ℕ) (r : Rack) (free : List
   -- the loop that sends begins
   pub going-send : (e : Event) (j : ℕ) (p : Plan) (s : Slot) (after : List ℕ) → decided r e ≡ Go p → j ≡ slotOf e → s ≡ slotAfter (p .clear) (getD (r .wire) j empty)
       → ((f : ℕ → Bool) → Maps f free → Maps (markedAt (p .clear) f j) after)
-      → Sending (r .sizes .replicas) (set (r .wire) j s) (p .message) (p .to) (set (r .wire) j s) after (p .to)
+      → Sending (r .settings .replicas) (set (r .wire) j s) (p .message) (p .to) (set (r .wire) j s) after (p .to)
   going-send e j p s after d ej es k =
       let f : Decided r e p = decided-fits r e p (g .sound) d in
-      sending-start (r .sizes .replicas) (r .wire) j (p .clear) s (p .message) (p .to) free after es (there-slot e j (f .inside) ej) (g .wire-long)
-      (going-full e j p d ej) (g .tied) k (f .room) (within-below (r .sizes .replicas) (p .to) (f .fits .to))
-      (bits-enough (r .sizes) (sound-of r (g .sound) .sizes))
+      sending-start (r .settings .replicas) (r .wire) j (p .clear) s (p .message) (p .to) free after es (there-slot e j (f .inside) ej) (g .wire-long)
+      (going-full e j p d ej) (g .tied) k (f .room) (within-below (r .settings .replicas) (p .to) (f .fits .to))
+      (bits-enough (r .settings) (sound-of r (g .sound) .settings))
 
   -- the entry finds its place
   pub going-entry : (e : Event) (p : Plan) → decided r e ≡ Go p → r .count + entriesIn (p .note) ≤ 2048
@@ -195,13 +195,13 @@ module _ (self : Rack) (allowance : ℕ) (ws : List ℕ) (r : Rack) (free : List
 
 -- a rack with another wire
 abbrev pub wired : Rack → List Slot → Rack
-wired r w = record { sizes = r .sizes; power = r .power; count = r .count; parties = r .parties; pairs = r .pairs; wire = w; lines = r .lines }
+wired r w = record { settings = r .settings; power = r .power; count = r .count; parties = r .parties; pairs = r .pairs; wire = w; lines = r .lines }
 
 -- a rack with one entry more
 abbrev pub entered : Rack → Entry → Rack
 entered r e =
     record {
-      sizes = r .sizes;
+      settings = r .settings;
       power = r .power;
       count = r .count + 1;
       parties = r .parties;
@@ -214,7 +214,7 @@ entered r e =
 abbrev pub turned : Rack → Plan → ℕ → ℕ → ℕ → Slot → Rack
 turned r p j c a s =
     record {
-      sizes = r .sizes;
+      settings = r .settings;
       power = p .power;
       count = r .count;
       parties = set (r .parties) c (p .party);
@@ -226,15 +226,15 @@ turned r p j c a s =
 -- the inner loop: only the wire changes
 pub record Shipping (v : Rack) (m : Message) (to : ℕ) (r : Rack) (free : List ℕ) (left : ℕ) : Type 0 where
   pub same : r ≡ wired v (r .wire)
-  pub send : Sending (v .sizes .replicas) (v .wire) m to (r .wire) free left
+  pub send : Sending (v .settings .replicas) (v .wire) m to (r .wire) free left
 
 pub shipping-more : (v : Rack) (m : Message) (to : ℕ) (r : Rack) (free : List ℕ) (left : ℕ) → Shipping v m to r free left
-    → (w : List Slot) (after : List ℕ) (x : ℕ) → Sending (v .sizes .replicas) (v .wire) m to w after x → Shipping v m to (wired r w) after x
+    → (w : List Slot) (after : List ℕ) (x : ℕ) → Sending (v .settings .replicas) (v .wire) m to w after x → Shipping v m to (wired r w) after x
 shipping-more v m to r free left s w after x n = record { same = ap (λ (q : Rack). wired q w) (s .same); send = n }
 
 pub shipping-end : (v : Rack) (m : Message) (to : ℕ) (r : Rack) (free : List ℕ) (left : ℕ) → Shipping v m to r free left → left ≡ 0
-    → r ≡ wired v (sentOf (v .wire) (addressed m (membersOf (v .sizes .replicas) to)))
-shipping-end v m to r free left s e = s .same ∙ ap (wired v) (sym (sending-end (v .sizes .replicas) (v .wire) m to (r .wire) free left (s .send) e))
+    → r ≡ wired v (sentOf (v .wire) (addressed m (membersOf (v .settings .replicas) to)))
+shipping-end v m to r free left s e = s .same ∙ ap (wired v) (sym (sending-end (v .settings .replicas) (v .wire) m to (r .wire) free left (s .send) e))
 
 -- an entry's place after the inner loop
 pub entry-place : (v : Rack) (m : Message) (to : ℕ) (q : Rack) (free : List ℕ) (left : ℕ) → Shipping v m to q free left → (n : Note) → entriesIn n ≡ 1
@@ -252,7 +252,7 @@ ended-one n x e = rw e
 -- after the inner loop, with no entry
 pub turned-none : (r : Rack) (e : Event) (p : Plan) (j c a : ℕ) (s : Slot) (q : Rack) → j ≡ slotOf e → c ≡ clientOf e (heldIn (r .wire) j) → a ≡ placeIn (heldIn (r .wire) j)
     → s ≡ slotAfter (p .clear) (getD (r .wire) j empty) → p .note ≡ Nothing
-    → q ≡ wired (turned r p j c a s) (sentOf (set (r .wire) j s) (addressed (p .message) (membersOf (r .sizes .replicas) (p .to)))) → q ≡ appliedOf r e p
+    → q ≡ wired (turned r p j c a s) (sentOf (set (r .wire) j s) (addressed (p .message) (membersOf (r .settings .replicas) (p .to)))) → q ≡ appliedOf r e p
 unfolding appliedOf entriesIn recorded
 turned-none r e p j c a s q ej ec ea es en eq =
     let z : r .count ≡ r .count + 0 = omega arith in
@@ -261,12 +261,12 @@ turned-none r e p j c a s q ej ec ea es en eq =
 -- with one
 pub turned-asked : (r : Rack) (e : Event) (p : Plan) (j c a : ℕ) (s : Slot) (x : Entry) (q : Rack) → j ≡ slotOf e → c ≡ clientOf e (heldIn (r .wire) j)
     → a ≡ placeIn (heldIn (r .wire) j) → s ≡ slotAfter (p .clear) (getD (r .wire) j empty) → p .note ≡ Asked x
-    → q ≡ wired (turned r p j c a s) (sentOf (set (r .wire) j s) (addressed (p .message) (membersOf (r .sizes .replicas) (p .to)))) → entered q x ≡ appliedOf r e p
+    → q ≡ wired (turned r p j c a s) (sentOf (set (r .wire) j s) (addressed (p .message) (membersOf (r .settings .replicas) (p .to)))) → entered q x ≡ appliedOf r e p
 unfolding appliedOf entriesIn recorded
 turned-asked r e p j c a s x q ej ec ea es en eq = ap (λ (y : Rack). entered y x) eq ∙ rw (en, es, cleared-is (p .clear) j (r .wire), ec, ea, ej)
 
 pub turned-ended : (r : Rack) (e : Event) (p : Plan) (j c a : ℕ) (s : Slot) (x : Entry) (q : Rack) → j ≡ slotOf e → c ≡ clientOf e (heldIn (r .wire) j)
     → a ≡ placeIn (heldIn (r .wire) j) → s ≡ slotAfter (p .clear) (getD (r .wire) j empty) → p .note ≡ Ended x
-    → q ≡ wired (turned r p j c a s) (sentOf (set (r .wire) j s) (addressed (p .message) (membersOf (r .sizes .replicas) (p .to)))) → entered q x ≡ appliedOf r e p
+    → q ≡ wired (turned r p j c a s) (sentOf (set (r .wire) j s) (addressed (p .message) (membersOf (r .settings .replicas) (p .to)))) → entered q x ≡ appliedOf r e p
 unfolding appliedOf entriesIn recorded
 turned-ended r e p j c a s x q ej ec ea es en eq = ap (λ (y : Rack). entered y x) eq ∙ rw (en, es, cleared-is (p .clear) j (r .wire), ec, ea, ej)

@@ -12,7 +12,7 @@ use Rattle.rack.specs.declared.Rack.{Rack}
 use Rattle.rack.specs.declared.Ran.{Ran}
 use Rattle.method.specs.Plan.{started, startIn, startOf, ofSlot, planOf}
 use Rattle.rack.specs.Places.{freeAt, roomOf, sentOf}
-use Rattle.rack.specs.Sound.{sizesFit, owes, owedBy, owedIn, owed}
+use Rattle.rack.specs.Sound.{settingsFit, owes, owedBy, owedIn, owed}
 use Rattle.method.specs.About.{clientIn, clientOf}
 use Rattle.rack.specs.Run.{freshRack, byte, eventOf, inRack, slotOf, placeIn, noted, freed, checked, decided, addressed, cleared, recorded, entriesIn, appliedOf, turn, ranOf}
 use Rattle.rack.specs.Run.{runFrom, runOf}
@@ -49,7 +49,7 @@ unfolding setBits hasReplica everyReplica membersFrom ones countFrom firstFrom s
 begun-from = record { done = refl; refusal = refl; room = refl; count = refl }
 
 begun : (q : Ran) → Starts q → Begun q
-unfolding sizesFit
+unfolding settingsFit
 begun q p = rw (p ∙ sound-from (freshRack 3 1 1) 5 (1 ∷ 0 ∷ 0 ∷ 18 ∷ []) (fresh-sound 3 1 1 refl)) begun-from
 
 -- a rack that always refuses
@@ -79,7 +79,7 @@ done-leaves s allowance ws q p = rw p (run-steps s allowance ws .same)
 -- ---- a delivery from a slot that is empty
 
 refused-4 : (q : Ran) → Delivers q → q ≡ ranOf 0 4 (freshRack 3 1 1)
-unfolding sizesFit planOf ofSlot freshRack eventOf inRack slotOf clientIn placeIn clientOf checked decided turn runFrom
+unfolding settingsFit planOf ofSlot freshRack eventOf inRack slotOf clientIn placeIn clientOf checked decided turn runFrom
 refused-4 q p = p ∙ sound-from (freshRack 3 1 1) 1 (2 ∷ 0 ∷ 0 ∷ 0 ∷ []) (fresh-sound 3 1 1 refl)
 
 -- it isn't done, and it isn't another refusal

@@ -14,7 +14,7 @@ use Rattle.stamps.specs.declared.Pair.{Pair}
 use Rattle.method.specs.declared.Message.{Message}
 use Rattle.rack.specs.declared.Slot.{Slot}
 use Rattle.method.specs.declared.Party.{Party}
-use Rattle.rack.specs.declared.Sizes.{Sizes}
+use Rattle.rack.specs.declared.Settings.{Settings}
 use Rattle.rack.specs.declared.Rack.{Rack}
 use Rattle.stamps.specs.Stamp.{freshPair}
 use Rattle.method.specs.declared.Event.{Event}
@@ -58,7 +58,7 @@ owed-store n i ps p h = go (ltb i (length ps)) refl
 -- ---- messages that are sent fit
 
 -- every message of the list names only what the rack has
-abbrev AllFit : Sizes → List Message → Type 0
+abbrev AllFit : Settings → List Message → Type 0
 AllFit z [] = Unit {0}
 AllFit z (m ∷ ms) = (messageFits z m ≡ true) × AllFit z ms
 
@@ -67,7 +67,7 @@ abbrev AllLess : ℕ → List ℕ → Type 0
 AllLess n [] = Unit {0}
 AllLess n (k ∷ ks) = (k < n) × AllLess n ks
 
-sent-fits : (z : Sizes) (ms : List Message) (w : List Slot) → AllFit z ms → ((i : ℕ) → i < 256 → heldFits z (heldIn w i) ≡ true)
+sent-fits : (z : Settings) (ms : List Message) (w : List Slot) → AllFit z ms → ((i : ℕ) → i < 256 → heldFits z (heldIn w i) ≡ true)
     → (i : ℕ) → i < 256 → heldFits z (heldIn (sentOf w ms) i) ≡ true
 unfolding sentOf heldFits
 sent-fits z [] w h k i l = k i l
@@ -84,14 +84,14 @@ members-less (suc n) k s t h = go (hasReplica s k) (members-less n (k + 1) s t (
     go true ih = (omega arith, ih)
     go false ih = ih
 
-addressed-fits : (z : Sizes) (m : Message) (ks : List ℕ)
+addressed-fits : (z : Settings) (m : Message) (ks : List ℕ)
     → ((k : ℕ) → k < z .replicas → messageFits z (messageOf (m .client) (record { 0 = k }) (m .cell) (m .op) (m .body)) ≡ true)
     → AllLess (z .replicas) ks → AllFit z (addressed m ks)
 unfolding addressed
 addressed-fits z m [] h b = tt
 addressed-fits z m (k ∷ ks) h b = (h k (b .0), addressed-fits z m ks h (b .1))
 
-cleared-fits : (z : Sizes) (b : Bool) (j : ℕ) (w : List Slot) → ((i : ℕ) → i < 256 → heldFits z (heldIn w i) ≡ true)
+cleared-fits : (z : Settings) (b : Bool) (j : ℕ) (w : List Slot) → ((i : ℕ) → i < 256 → heldFits z (heldIn w i) ≡ true)
     → (i : ℕ) → i < 256 → heldFits z (heldIn (cleared b j w) i) ≡ true
 unfolding cleared heldFits
 cleared-fits z true j w h i l = set-either (λ (s : Slot). heldFits z (s .held) ≡ true) w j empty empty i refl (h i l)
@@ -99,22 +99,22 @@ cleared-fits z false j w h i l = h i l
 
 -- ---- a sound rack stays sound
 
-applied-owed : (r : Rack) (e : Event) (p : Plan) → owed (appliedOf r e p) ≡ owedIn (r .sizes .clients) (set (r .parties) (lookedClient r e) (p .party))
+applied-owed : (r : Rack) (e : Event) (p : Plan) → owed (appliedOf r e p) ≡ owedIn (r .settings .clients) (set (r .parties) (lookedClient r e) (p .party))
 unfolding appliedOf
 applied-owed r e p = owed-in (appliedOf r e p)
 
 entries-stay : (r : Rack) (e : Event) (p : Plan) → Decided r e p → r .count + entriesIn (p .note) + owed (appliedOf r e p) ≤ 2048
 entries-stay r e p d =
-    omega (arith, d .entries, applied-owed r e p, owed-in r, owed-store (r .sizes .clients) (lookedClient r e) (r .parties) (p .party) (d .looked .client))
+    omega (arith, d .entries, applied-owed r e p, owed-in r, owed-store (r .settings .clients) (lookedClient r e) (r .parties) (p .party) (d .looked .client))
 
 pub stays : (r : Rack) (e : Event) (p : Plan) → soundOf r ≡ true → decided r e ≡ Go p → Sound (appliedOf r e p)
 unfolding appliedOf
 stays r e p h g =
-    let z : Sizes = r .sizes in
+    let z : Settings = r .settings in
     let s : Sound r = sound-of r h in
     let d : Decided r e p = decided-fits r e p h g in
     record {
-      sizes = s .sizes;
+      settings = s .settings;
       slots = sent-fits z (addressed (p .message) (membersOf (z .replicas) (p .to))) (cleared (p .clear) (slotOf e) (r .wire))
           (addressed-fits z (p .message) (membersOf (z .replicas) (p .to)) (d .fits .message) (members-less (z .replicas) 0 (p .to) (z .replicas) (omega arith)))
           (cleared-fits z (p .clear) (slotOf e) (r .wire) (s .slots));

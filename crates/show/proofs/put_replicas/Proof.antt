@@ -9,10 +9,10 @@ use Rattle.show.proofs.put_replicas.Statement.{statement}
 use Rattle.show.proofs.put_replicas.Tie as tie
 
 abbrev Inv-loop : tie.InvT-loop
-Inv-loop out₀ at rack n next₀ k₀ out next k = (k ≤ rack .sizes .replicas) × Printed out₀ at (eachBelow k (λ j. replicaLine rack j)) next out
+Inv-loop out₀ at rack n next₀ k₀ out next k = (k ≤ rack .settings .replicas) × Printed out₀ at (eachBelow k (λ j. replicaLine rack j)) next out
 
 abbrev μ-loop : tie.MeasureT-loop
-μ-loop out₀ at rack n next₀ k₀ out next k = rack .sizes .replicas - k
+μ-loop out₀ at rack n next₀ k₀ out next k = rack .settings .replicas - k
 
 loop-holds : tie.Need-loop-holds Inv-loop μ-loop
 loop-holds c = (search needs, each-none _)

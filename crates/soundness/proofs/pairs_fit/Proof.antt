@@ -12,10 +12,10 @@ use Rattle.soundness.proofs.pairs_fit.Statement.{statement}
 use Rattle.soundness.proofs.pairs_fit.Tie as tie
 
 abbrev Inv-loop : tie.InvT-loop
-Inv-loop rack n k₀ k = (k ≤ rack .sizes .replicas) × (allBelow k (λ j. allBelow (rack .sizes .cells) (λ y. pairFits (rack .sizes) (pairAt rack j y))) ≡ true)
+Inv-loop rack n k₀ k = (k ≤ rack .settings .replicas) × (allBelow k (λ j. allBelow (rack .settings .cells) (λ y. pairFits (rack .settings) (pairAt rack j y))) ≡ true)
 
 abbrev μ-loop : tie.MeasureT-loop
-μ-loop rack n k₀ k = rack .sizes .replicas - k
+μ-loop rack n k₀ k = rack .settings .replicas - k
 
 cast-n : tie.Need-cast-n Inv-loop μ-loop
 cast-n c = search needs

@@ -15,7 +15,7 @@ unfolding soundOf
 returns c = rw (c .before .before .pre, sym (c .before .wire-fits .ensures) ∙ not-true _ (c .if1 .taken))
 
 pairs-fit-requires : tie.Need-pairs-fit-requires
-pairs-fit-requires c κs = let z = sized (c .before .before .args .rack .sizes) (c .before .before .pre) in (z .replicas, z .cells)
+pairs-fit-requires c κs = let z = sized (c .before .before .args .rack .settings) (c .before .before .pre) in (z .replicas, z .cells)
 
 returns-2 : tie.Need-returns-2
 unfolding soundOf
@@ -27,7 +27,7 @@ returns-2 c = rw (
 )
 
 parties-fit-requires : tie.Need-parties-fit-requires
-parties-fit-requires c κs = sized (c .before .before .before .before .args .rack .sizes) (c .before .before .before .before .pre) .clients
+parties-fit-requires c κs = sized (c .before .before .before .before .args .rack .settings) (c .before .before .before .before .pre) .clients
 
 returns-3 : tie.Need-returns-3
 unfolding soundOf

@@ -16,7 +16,7 @@ add-result : tie.Need-add-result
 add-result c = omega (
   arith,
   c .owed-by-all .ensures,
-  owed-most (c .before .before .before .before .args .rack .sizes .clients) (c .before .before .before .before .args .rack .parties),
+  owed-most (c .before .before .before .before .args .rack .settings .clients) (c .before .before .before .before .args .rack .parties),
 )
 
 returns-2 : tie.Need-returns-2

@@ -12,10 +12,10 @@ use Rattle.soundness.proofs.replica_fits.Statement.{statement}
 use Rattle.soundness.proofs.replica_fits.Tie as tie
 
 abbrev Inv-loop : tie.InvT-loop
-Inv-loop k rack sizes n x₀ x = (x ≤ rack .sizes .cells) × (allBelow x (λ y. pairFits (rack .sizes) (pairAt rack k y)) ≡ true)
+Inv-loop k rack sizes n x₀ x = (x ≤ rack .settings .cells) × (allBelow x (λ y. pairFits (rack .settings) (pairAt rack k y)) ≡ true)
 
 abbrev μ-loop : tie.MeasureT-loop
-μ-loop k rack sizes n x₀ x = rack .sizes .cells - x
+μ-loop k rack sizes n x₀ x = rack .settings .cells - x
 
 cast-n : tie.Need-cast-n Inv-loop μ-loop
 cast-n c = search needs

@@ -12,7 +12,7 @@ use Rattle.soundness.proofs.wire_fits.Statement.{statement}
 use Rattle.soundness.proofs.wire_fits.Tie as tie
 
 abbrev Inv-loop : tie.InvT-loop
-Inv-loop rack sizes i₀ i = (i ≤ 256) × (allBelow i (λ j. heldFits (rack .sizes) (heldAt rack j)) ≡ true)
+Inv-loop rack sizes i₀ i = (i ≤ 256) × (allBelow i (λ j. heldFits (rack .settings) (heldAt rack j)) ≡ true)
 
 abbrev μ-loop : tie.MeasureT-loop
 μ-loop rack sizes i₀ i = 256 - i

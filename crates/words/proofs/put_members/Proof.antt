@@ -11,7 +11,7 @@ cast-put-parties : tie.Need-cast-put-parties
 cast-put-parties c = search needs
 
 put-parties-requires : tie.Need-put-parties-requires
-put-parties-requires c κs = (c .before .before .before .before .before .pre .0, sound-of _ (c .before .before .before .before .before .pre .1) .sizes .clients)
+put-parties-requires c κs = (c .before .before .before .before .before .pre .0, sound-of _ (c .before .before .before .before .before .pre .1) .settings .clients)
 
 cast-put-pairs : tie.Need-cast-put-pairs
 cast-put-pairs c = search needs
@@ -25,7 +25,7 @@ cast-put-pairs-2 c = search needs
 put-pairs-requires : tie.Need-put-pairs-requires
 put-pairs-requires c κs = (
   search needs,
-  omega (arith, sound-of _ (c .before .before .before .before .before .before .before .before .before .before .before .before .pre .1) .sizes .replicas),
+  omega (arith, sound-of _ (c .before .before .before .before .before .before .before .before .before .before .before .before .pre .1) .settings .replicas),
 )
 
 same-length : tie.Need-same-length

@@ -1,27 +1,27 @@
 -- `rack::maker::sizes_in` meets its contract.
 use borrow.Author.Tests.{lt-leb, le-leb}
-use Rattle.rack.specs.Sound.{sizesFit}
+use Rattle.rack.specs.Sound.{settingsFit}
 use Rattle.rack.proofs.maker.sizes_in.Statement.{statement}
 use Rattle.rack.proofs.maker.sizes_in.Tie as tie
 
 returns : tie.Need-returns
-unfolding sizesFit
+unfolding settingsFit
 returns c = rw (lt-leb _ _ (c .if1 .taken))
 
 returns-2 : tie.Need-returns-2
-unfolding sizesFit
+unfolding settingsFit
 returns-2 c = rw (le-leb _ _ (c .before .if1 .left), lt-leb _ _ (c .if2 .taken))
 
 returns-3 : tie.Need-returns-3
-unfolding sizesFit
+unfolding settingsFit
 returns-3 c = rw (le-leb _ _ (c .before .before .if1 .left), le-leb _ _ (c .before .if2 .left), lt-leb _ _ (c .if3 .taken))
 
 returns-4 : tie.Need-returns-4
-unfolding sizesFit
+unfolding settingsFit
 returns-4 c = rw (le-leb _ _ (c .before .before .before .if1 .left), le-leb _ _ (c .before .before .if2 .left), le-leb _ _ (c .before .if3 .left), lt-leb _ _ (c .if4 .taken))
 
 returns-5 : tie.Need-returns-5
-unfolding sizesFit
+unfolding settingsFit
 returns-5 c = rw (
   le-leb _ _ (c .before .before .before .before .if1 .left),
   le-leb _ _ (c .before .before .before .if2 .left),
@@ -31,7 +31,7 @@ returns-5 c = rw (
 )
 
 returns-6 : tie.Need-returns-6
-unfolding sizesFit
+unfolding settingsFit
 returns-6 c = rw (
   le-leb _ _ (c .before .before .before .before .if1 .left),
   le-leb _ _ (c .before .before .before .if2 .left),
