@@ -8,7 +8,8 @@ use Rattle.method.specs.declared.Event.the-variants.{StartRead, StartWrite, Del
 use Rattle.method.specs.declared.Plan.{Plan}
 use Rattle.method.specs.declared.Decision.{Decision}
 use Rattle.method.specs.declared.Decision.the-variants.{No, Go}
-use Rattle.rack.specs.Run.{eventOf, decided, appliedOf}
+use Rattle.rack.specs.Run.{eventOf, appliedOf}
+use Rattle.rack.specs.Refusals.{decided}
 
 -- messages sent, counted from the events done; what a copy puts in a slot isn't sent anew
 unfoldable pub sentBy : Event → Plan → ℕ

@@ -1,6 +1,8 @@
 -- What has to be believed: definitions.
 pub mod Places
 pub mod Sound
+pub mod Looking
+pub mod Refusals
 pub mod Run
 pub mod Counts
 pub mod Answers

@@ -13,6 +13,7 @@ use Rattle.method.specs.declared.InSlot.{InSlot}
 use Rattle.method.specs.declared.InSlot.the-variants.{Empty, Full}
 use Rattle.rack.specs.declared.Slot.{Slot}
 use Rattle.method.specs.declared.Work.the-variants.{Idle}
+use Rattle.method.specs.Refusals.{isEmpty}
 use Rattle.method.specs.declared.Party.{Party}
 use Rattle.rack.specs.declared.Line.{Line}
 use Rattle.rack.specs.declared.Rack.{Rack}
@@ -65,11 +66,6 @@ heldIn wire i = getD wire i empty .held
 -- what slot i of the rack's wire holds
 abbrev pub heldAt : Rack → ℕ → InSlot
 heldAt r i = heldIn (r .wire) i
-
--- whether a slot holds no message
-abbrev pub isEmpty : InSlot → Bool
-isEmpty Empty = true
-isEmpty (Full m) = false
 
 -- which slots are free
 unfoldable pub freeAt : List Slot → ℕ → Bool

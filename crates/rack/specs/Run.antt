@@ -1,20 +1,16 @@
 -- One event on a rack, and a schedule with an allowance. The paper: "What each event does", "When the rack says no".
 use Prim.Native.Nat.{ℕ, zero, suc, _+_}
-use mathlib.Core.Bool.{Bool, true, false, cond, _&&_}
+use mathlib.Core.Bool.{Bool, true, false, cond}
 use mathlib.Core.List.{List, [], _∷_}
 use lib.Dec.{ltb, eqb}
-use lib.ListN.{getD, set, length, replicate}
-use lib.Count.{ones}
+use lib.ListN.{set, replicate}
 use Rattle.number.specs.Value.{signedOf}
 use Rattle.record.specs.Entry.{clientLimit}
 use Rattle.record.specs.Record.{entryLimit}
 use Rattle.quorum.specs.Sets.{everyReplica, membersOf}
 use Rattle.method.specs.declared.Message.{Message}
-use Rattle.method.specs.declared.InSlot.{InSlot}
-use Rattle.method.specs.declared.InSlot.the-variants.{Empty, Full}
 use Rattle.rack.specs.declared.Slot.{Slot}
 use Rattle.rack.specs.declared.Line.{Line}
-use Rattle.rack.specs.declared.Settings.{Settings}
 use Rattle.rack.specs.declared.Rack.{Rack}
 use Rattle.method.specs.declared.Event.{Event}
 use Rattle.method.specs.declared.Event.the-variants.{StartRead, StartWrite, Deliver, Lose, Copy, Resend, Stop, Off, On, Unknown}
@@ -26,10 +22,11 @@ use Rattle.method.specs.declared.Decision.the-variants.{No, Go}
 use Rattle.rack.specs.declared.Made.{Made}
 use Rattle.rack.specs.declared.Ran.{Ran}
 use Rattle.stamps.specs.Stamp.{freshPair}
-use Rattle.method.specs.Plan.{messageOf, planOf}
-use Rattle.method.specs.About.{clientOf}
-use Rattle.rack.specs.Places.{slotLimit, pairLimit, empty, blank, idle, partyAt, pairPlace, heldAt, roomOf, sentOf}
-use Rattle.rack.specs.Sound.{settingsFit, owed, soundOf}
+use Rattle.method.specs.Plan.{messageOf}
+use Rattle.rack.specs.Places.{slotLimit, pairLimit, empty, blank, idle, sentOf}
+use Rattle.rack.specs.Sound.{settingsFit}
+use Rattle.rack.specs.Looking.{slotOf, lookedClient, lookedPlace}
+use Rattle.rack.specs.Refusals.{decided}
 
 -- ---- the maker
 
@@ -72,72 +69,6 @@ eventOf kind a b value =
     (cond (eqb kind 8) (byte a (On (record { 0 = a })))
     Unknown))))))))
 
--- ---- what an event is about
-
--- whether its numbers are in this rack
-unfoldable pub inRack : Settings → Event → Bool
-inRack z (StartRead client cell) = ltb (client .0) (z .clients) && ltb (cell .0) (z .cells)
-inRack z (StartWrite client cell v) = ltb (client .0) (z .clients) && ltb (cell .0) (z .cells)
-inRack z (Deliver slot) = ltb slot slotLimit
-inRack z (Lose slot) = ltb slot slotLimit
-inRack z (Copy slot) = ltb slot slotLimit
-inRack z (Resend client) = ltb (client .0) (z .clients)
-inRack z (Stop client) = ltb (client .0) (z .clients)
-inRack z (Off replica) = ltb (replica .0) (z .replicas)
-inRack z (On replica) = ltb (replica .0) (z .replicas)
-inRack z Unknown = false
-
--- its slot; slot 0 where it names none
-unfoldable pub slotOf : Event → ℕ
-slotOf (StartRead client cell) = 0
-slotOf (StartWrite client cell v) = 0
-slotOf (Deliver slot) = slot
-slotOf (Lose slot) = slot
-slotOf (Copy slot) = slot
-slotOf (Resend client) = 0
-slotOf (Stop client) = 0
-slotOf (Off replica) = 0
-slotOf (On replica) = 0
-slotOf Unknown = 0
-
--- the place of the pair that a slot's message is about; 0 where it is empty
-unfoldable pub placeIn : InSlot → ℕ
-placeIn Empty = 0
-placeIn (Full m) = pairPlace (m .replica .0) (m .cell .0)
-
--- ---- the refusals that every plan has to pass
-
--- 11: start, and entries + answers owed + 2 exceeds 2,048; taken is entries + answers owed
-unfoldable pub noted : Note → ℕ → Decision → Decision
-noted Nothing taken o = o
-noted (Asked e) taken o = cond (ltb entryLimit (taken + 2)) (No 11) o
-noted (Ended e) taken o = o
-
--- a delivered slot counts as free
-unfoldable pub freed : Bool → ℕ
-freed true = 1
-freed false = 0
-
--- 11, then 13: more to send than free slots
-unfoldable pub checked : Decision → ℕ → ℕ → Decision
-checked (No k) taken room = No k
-checked (Go p) taken room = noted (p .note) taken (cond (ltb (room + freed (p .clear)) (ones (p .to))) (No 13) (Go p))
-
--- the plan for an event, with 3 first: a number not in this rack
-unfoldable pub decided : Rack → Event → Decision
-decided r e =
-    let held = heldAt r (slotOf e) in
-    cond (inRack (r .settings) e)
-    (checked
-    (planOf (record {
-      replicas = r .settings .replicas;
-      power = r .power;
-      party = partyAt r (clientOf e held);
-      pair = getD (r .pairs) (placeIn held) freshPair;
-    }) held e)
-    (r .count + owed r) (roomOf (r .wire)))
-    (No 3)
-
 -- ---- the rack after a plan
 
 -- a message to each replica of a list
@@ -165,13 +96,12 @@ entriesIn (Ended e) = 1
 -- client, pair and power as planned; the slot emptied, then messages to the replicas of the set, in replica order; the entry at the record's end
 unfoldable pub appliedOf : Rack → Event → Plan → Rack
 appliedOf r e p =
-    let held = heldAt r (slotOf e) in
     record {
       settings = r .settings;
       power = p .power;
       count = r .count + entriesIn (p .note);
-      parties = set (r .parties) (clientOf e held) (p .party);
-      pairs = set (r .pairs) (placeIn held) (p .pair);
+      parties = set (r .parties) (lookedClient r e) (p .party);
+      pairs = set (r .pairs) (lookedPlace r e) (p .pair);
       wire = sentOf (cleared (p .clear) (slotOf e) (r .wire)) (addressed (p .message) (membersOf (r .settings .replicas) (p .to)));
       lines = recorded (p .note) (r .count) (r .lines);
     }
@@ -197,9 +127,6 @@ runFrom done r (suc left) (k ∷ a ∷ b ∷ []) = ranOf done 0 r
 runFrom done r (suc left) (k ∷ a ∷ b ∷ v ∷ ws) =
     turn done r (eventOf k a b v) (decided r (eventOf k a b v)) (λ q. runFrom (done + 1) q left ws)
 
--- no event is tried at allowance 0 or on an empty list; 2: an unsound rack, as soon as an event is tried
+-- a run begins with no event done: none is tried at allowance 0 or on an empty list
 unfoldable pub runOf : Rack → ℕ → List ℕ → Ran
-runOf r allowance ws =
-    cond (eqb allowance 0) (ranOf 0 0 r)
-    (cond (ltb (length ws) 4) (ranOf 0 0 r)
-    (cond (soundOf r) (runFrom 0 r allowance ws) (ranOf 0 2 r)))
+runOf r allowance ws = runFrom 0 r allowance ws

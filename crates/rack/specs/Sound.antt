@@ -6,9 +6,9 @@ use Rattle.method.specs.declared.Party.{Party}
 use Rattle.rack.specs.Places.{idle, slotLimit, replicaLimit, partyAt, pairAt, heldAt}
 use mathlib.Core.Bool.{Bool, true, cond, not, _&&_, _||_}
 use lib.Dec.{ltb, leb, eqb}
-use Rattle.record.specs.declared.Cell.{Cell}
 use Rattle.record.specs.Entry.{clientLimit, cellLimit}
 use Rattle.record.specs.Record.{entryLimit}
+use Rattle.quorum.specs.declared.Quorums.{Quorums}
 use Rattle.quorum.specs.Sets.{within, asksEnough, keepsEnough}
 use Rattle.stamps.specs.declared.Pair.{Pair}
 use Rattle.method.specs.declared.Body.{Body}
@@ -17,15 +17,19 @@ use Rattle.method.specs.declared.Message.{Message}
 use Rattle.method.specs.declared.InSlot.{InSlot}
 use Rattle.method.specs.declared.InSlot.the-variants.{Empty, Full}
 use Rattle.method.specs.declared.Work.{Work}
-use Rattle.method.specs.declared.Work.the-variants.{Idle, Asking, Keeping}
+use Rattle.method.specs.declared.Work.the-variants.{Idle, Open}
+use Rattle.method.specs.declared.Operation.{Operation}
+use Rattle.method.specs.declared.Phase.{Phase}
+use Rattle.method.specs.declared.Phase.the-variants.{Asking, Keeping}
+use Rattle.method.specs.declared.Holding.{Holding}
+use Rattle.method.specs.declared.Holding.the-variants.{NoPair, Holds}
 use Rattle.rack.specs.declared.Settings.{Settings}
 use Rattle.rack.specs.declared.Rack.{Rack}
 
 -- 1 for an open operation, 0 for none
 unfoldable pub owes : Work → ℕ
 owes Idle = 0
-owes (Asking cell goal set held) = 1
-owes (Keeping cell goal set held) = 1
+owes (Open o) = 1
 
 -- a client owes an answer for its open operation unless it is stopped
 unfoldable pub owedBy : Party → ℕ
@@ -62,23 +66,28 @@ unfoldable pub heldFits : Settings → InSlot → Bool
 heldFits z Empty = true
 heldFits z (Full m) = messageFits z m
 
--- in the ask phase a pair is held only after a tell: the set is empty, or the pair names a rank that the rack has
-abbrev pub toldFits : Settings → ℕ → Pair → Bool
-toldFits z set held = eqb set 0 || pairFits z held
+-- the quorums that these settings give
+abbrev pub quorumsOf : Settings → Quorums
+quorumsOf z = record { replicas = z .replicas }
 
--- in the ask phase: cell and held pair are of this rack, the set has no replica that isn't there, and is no majority
-abbrev pub askFits : Settings → Cell → ℕ → Pair → Bool
-askFits z cell set held = (ltb (cell .0) (z .cells) && toldFits z set held) && (within (z .replicas) set && not (asksEnough (z .replicas) set))
+-- in the ask phase nothing is held while nobody has told, and then a pair that names a rank that the rack has
+unfoldable pub holdingFits : Settings → ℕ → Holding → Bool
+holdingFits z set NoPair = eqb set 0
+holdingFits z set (Holds p) = not (eqb set 0) && pairFits z p
 
--- in the keep phase: cell and held pair are of this rack, the set has no replica that isn't there, and is no majority
-abbrev pub keepFits : Settings → Cell → ℕ → Pair → Bool
-keepFits z cell set held = (ltb (cell .0) (z .cells) && pairFits z held) && (within (z .replicas) set && not (keepsEnough (z .replicas) set))
+-- what is held fits, and the set isn't enough to end the phase
+unfoldable pub phaseFits : Settings → ℕ → Phase → Bool
+phaseFits z set (Asking held) = holdingFits z set held && not (asksEnough (quorumsOf z) set)
+phaseFits z set (Keeping held) = pairFits z held && not (keepsEnough (quorumsOf z) set)
 
--- an open operation is one that its phase may have; a client without one fits
+-- an open operation's cell is of this rack, its set has no replica that isn't there, and its phase fits
+unfoldable pub operationFits : Settings → Operation → Bool
+operationFits z o = (ltb (o .cell .0) (z .cells) && within (z .replicas) (o .set)) && phaseFits z (o .set) (o .phase)
+
+-- a client without an open operation fits
 unfoldable pub workFits : Settings → Work → Bool
 workFits z Idle = true
-workFits z (Asking cell goal set held) = askFits z cell set held
-workFits z (Keeping cell goal set held) = keepFits z cell set held
+workFits z (Open o) = operationFits z o
 
 -- the answers owed by the first n of some clients
 unfoldable pub owedIn : ℕ → List Party → ℕ

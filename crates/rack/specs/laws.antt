@@ -3,8 +3,8 @@ pub mod FloatingPins
 pub mod Tests
 pub mod SoundLaws
 pub mod PlanLaws
-pub mod Owed
+pub mod Table
 pub mod Decided
-pub mod Refusals
+pub mod Owed
 pub mod Fresh
 pub mod OnlyOne

@@ -12,18 +12,7 @@ fn owes(work: Work) -> usize
 {
     match work {
         Work::Idle => 0,
-        Work::Asking {
-            cell: _,
-            goal: _,
-            set: _,
-            held: _,
-        } => 1,
-        Work::Keeping {
-            cell: _,
-            goal: _,
-            set: _,
-            held: _,
-        } => 1,
+        Work::Open(_) => 1,
     }
 }
 

@@ -38,9 +38,12 @@ use Rattle.stamps.specs.Stamp.{freshPair}
 use Rattle.method.specs.Plan.{messageOf, planOf}
 use Rattle.rack.specs.Places.{slotLimit, empty, full, idle, heldIn, freeAt, roomOf, sentOf, recordOf}
 use Rattle.rack.specs.Sound.{settingsFit, owed, soundOf}
-use Rattle.rack.specs.Run.{freshRack, madeOf, byte, eventOf, slotOf, decided, checked, addressed, cleared, recorded, entriesIn, appliedOf, turn, runFrom, runOf}
+use Rattle.rack.specs.Run.{freshRack, madeOf, byte, eventOf, addressed, cleared, recorded, entriesIn, appliedOf, turn, runFrom, runOf}
+use Rattle.rack.specs.Refusals.{decided, checked}
+use Rattle.rack.specs.Looking.{slotOf}
 use Rattle.rack.specs.laws.SoundLaws.{Sized, Sound, sound-of}
-use Rattle.rack.specs.laws.Decided.{lookedHeld, lookedClient, lookedParty, lookedPlace, lookedPair, sight, Decided, decided-fits, checked-go}
+use Rattle.rack.specs.laws.Decided.{Decided, decided-fits, checked-go}
+use Rattle.rack.specs.Looking.{lookedHeld, lookedClient, lookedParty, lookedPlace, lookedPair, sight}
 use Rattle.rack.specs.laws.Fresh.{made-sound}
 use Rattle.slots.specs.Free.{firstFree}
 use Rattle.quorum.specs.Sets.{membersOf}

@@ -42,8 +42,9 @@ use Rattle.method.specs.Holding.{holds, lastEntry}
 use Rattle.method.specs.Plan.{deliverIn, deliverOf, copyOf, resendIn, resendOf, stopOf, powered, offOf, onOf, ofSlot, planOf}
 use Rattle.rack.specs.Places.{recordOf}
 use Rattle.rack.specs.Sound.{soundOf}
-use Rattle.rack.specs.Run.{madeOf, eventOf, decided, appliedOf, turn, runFrom, runOf}
-use Rattle.rack.specs.laws.Decided.{lookedHeld, sight}
+use Rattle.rack.specs.Run.{madeOf, eventOf, appliedOf, turn, runFrom, runOf}
+use Rattle.rack.specs.Refusals.{decided}
+use Rattle.rack.specs.Looking.{lookedHeld, sight}
 use Rattle.rack.specs.laws.Fresh.{made-sound}
 use Rattle.runs.specs.laws.Stays.{sound-stays}
 use Rattle.runs.specs.laws.Steps.{sound-from}

@@ -37,7 +37,7 @@ use Rattle.method.specs.Holding.{holds, lastEntry}
 use Rattle.method.specs.Plan.{keptCounts, keptIn, keptOf, deliverIn, deliverOf, copyOf, resendIn, resendOf, stopOf, powered, offOf, onOf, ofSlot, planOf}
 use Rattle.rack.specs.Sound.{heldFits}
 use Rattle.method.specs.About.{clientIn, clientOf}
-use Rattle.rack.specs.Run.{inRack}
+use Rattle.rack.specs.Looking.{inRack}
 use Rattle.method.specs.laws.Tests.{and-left, and-right, whichever}
 use Rattle.rack.specs.laws.SoundLaws.{named}
 use Rattle.back.specs.Standing.{openFor, openIn, Within, PairSmall, BodySmall, HeldSmall, GoalSmall, WorkSmall, EventSmall}

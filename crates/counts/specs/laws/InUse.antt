@@ -13,7 +13,8 @@ use Rattle.method.specs.declared.Plan.{Plan}
 use Rattle.method.specs.declared.Decision.the-variants.{Go}
 use Rattle.rack.specs.Places.{empty, freeAt, roomOf}
 use Rattle.rack.specs.Sound.{soundOf}
-use Rattle.rack.specs.Run.{decided, appliedOf, freshRack, madeOf, runOf}
+use Rattle.rack.specs.Run.{appliedOf, freshRack, madeOf, runOf}
+use Rattle.rack.specs.Refusals.{decided}
 use Rattle.rack.specs.laws.Decided.{decided-fits}
 use Rattle.rack.specs.Counts.{sentBy, deliveredBy}
 use Rattle.runs.specs.laws.Stays.{sound-stays}

@@ -38,9 +38,10 @@ use Rattle.method.specs.Holding.{lastEntry}
 use Rattle.rack.specs.Places.{roomOf}
 use Rattle.rack.specs.Sound.{heldFits, owes, owed, soundOf}
 use Rattle.method.specs.About.{clientIn, clientOf}
-use Rattle.rack.specs.Run.{freed, checked, decided}
+use Rattle.rack.specs.Refusals.{freed, checked, decided}
 use Rattle.rack.specs.laws.SoundLaws.{Sound, sound-of, named}
-use Rattle.rack.specs.laws.Decided.{lookedHeld, lookedClient, lookedParty, lookedPair, sight, checked-go, Decided, decided-fits}
+use Rattle.rack.specs.laws.Decided.{checked-go, Decided, decided-fits}
+use Rattle.rack.specs.Looking.{lookedHeld, lookedClient, lookedParty, lookedPair, sight}
 use Rattle.rack.specs.Counts.{sentBy, deliveredBy}
 use Rattle.counts.specs.laws.Costing.{requests-else, requests-own, none-sent, silent, answers, start-cost, phase-cost, same-cost}
 use Rattle.counts.specs.Counts.{copiedBy, lostBy, isRequest, requestsBy, resentBy, costIn, costOf, endsBy}

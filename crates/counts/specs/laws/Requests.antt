@@ -22,10 +22,12 @@ use Rattle.method.specs.declared.Plan.{Plan}
 use Rattle.method.specs.declared.Decision.the-variants.{Go}
 use Rattle.rack.specs.Places.{blank, idle, partyAt, recordOf}
 use Rattle.rack.specs.Sound.{owes, soundOf}
-use Rattle.rack.specs.Run.{decided, recorded, entriesIn, appliedOf, freshRack}
+use Rattle.rack.specs.Run.{recorded, entriesIn, appliedOf, freshRack}
+use Rattle.rack.specs.Refusals.{decided}
 use Rattle.rack.specs.laws.SoundLaws.{sound-of}
 use Rattle.rack.specs.laws.Fresh.{made-sound}
-use Rattle.rack.specs.laws.Decided.{lookedClient, lookedParty, decided-fits}
+use Rattle.rack.specs.laws.Decided.{decided-fits}
+use Rattle.rack.specs.Looking.{lookedClient, lookedParty}
 use Rattle.runs.specs.laws.Stays.{stays, sound-stays}
 use Rattle.runs.specs.laws.Loop.{applied-parties}
 use Rattle.counts.specs.Counts.{totalOf, requestsBy, resentBy, costIn, costOf, endsBy, endsOf, madeRack, rackAfter}

@@ -14,7 +14,8 @@ use Rattle.rack.specs.declared.Rack.{Rack}
 use Rattle.rack.specs.declared.Ran.{Ran}
 use Rattle.rack.specs.declared.Made.{Made}
 use Rattle.rack.specs.Sound.{settingsFit, soundOf}
-use Rattle.rack.specs.Run.{eventOf, decided, appliedOf, turn, ranOf, runFrom, runOf, freshRack, madeOf}
+use Rattle.rack.specs.Run.{eventOf, appliedOf, turn, ranOf, runFrom, runOf, freshRack, madeOf}
+use Rattle.rack.specs.Refusals.{decided}
 use Rattle.rack.specs.Counts.{counted, countOver}
 use Rattle.runs.specs.laws.Steps.{sound-from, run-steps}
 use Rattle.counts.specs.Counts.{totalOf}

@@ -12,7 +12,9 @@ use Rattle.rack.specs.Places.{freeAt, roomOf, sentOf, recordOf}
 use Rattle.rack.specs.Sound.{allBelow, settingsFit, pairFits, bodyFits, messageFits, heldFits, workFits, owes, owedBy, owedIn, owed, wireFits, pairsFit, partiesFit, recordFits}
 use Rattle.rack.specs.Sound.{soundOf}
 use Rattle.method.specs.About.{clientIn, clientOf}
-use Rattle.rack.specs.Run.{freshRack, byte, eventOf, inRack, slotOf, placeIn, noted, freed, checked, decided, addressed, cleared, recorded, entriesIn, appliedOf, turn, runFrom}
+use Rattle.rack.specs.Run.{freshRack, byte, eventOf, addressed, cleared, recorded, entriesIn, appliedOf, turn, runFrom}
+use Rattle.rack.specs.Refusals.{noted, freed, checked, decided}
+use Rattle.rack.specs.Looking.{inRack, slotOf, placeIn}
 use Rattle.rack.specs.Run.{runOf}
 use Rattle.rack.specs.Counts.{sentBy, deliveredBy, counted, countOver}
 use Rattle.counts.specs.Counts.{inUse, copiedBy, lostBy, totalOf, isRequest, requestOf, requestsBy, endsBy, endsOf}

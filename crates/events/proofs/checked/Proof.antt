@@ -1,6 +1,6 @@
 -- `events::checked` meets its contract.
 use borrow.Author.Needs.{needs}
-use Rattle.rack.specs.Run.{noted, checked}
+use Rattle.rack.specs.Refusals.{noted, checked}
 use Rattle.events.proofs.Laws.{crowded-by}
 use Rattle.events.proofs.checked.Statement.{statement}
 use Rattle.events.proofs.checked.Tie as tie

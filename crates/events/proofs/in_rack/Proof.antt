@@ -1,6 +1,6 @@
 -- `events::in_rack` meets its contract.
 use borrow.Author.Needs.{needs}
-use Rattle.rack.specs.Run.{inRack}
+use Rattle.rack.specs.Looking.{inRack}
 use Rattle.events.proofs.in_rack.Statement.{statement}
 use Rattle.events.proofs.in_rack.Tie as tie
 

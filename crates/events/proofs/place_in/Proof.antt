@@ -1,6 +1,6 @@
 -- `events::place_in` meets its contract.
 use borrow.Author.Needs.{needs}
-use Rattle.rack.specs.Run.{placeIn}
+use Rattle.rack.specs.Looking.{placeIn}
 use Rattle.events.proofs.place_in.Statement.{statement}
 use Rattle.events.proofs.place_in.Tie as tie
 

@@ -1,7 +1,7 @@
 -- `events::short` meets its contract.
 use mathlib.Core.Path.{sym, _∙_}
 use borrow.Author.Needs.{needs}
-use Rattle.rack.specs.Run.{freed}
+use Rattle.rack.specs.Refusals.{freed}
 use Rattle.events.proofs.Laws.{short-none, short-one, short-more}
 use Rattle.events.proofs.short.Statement.{statement}
 use Rattle.events.proofs.short.Tie as tie

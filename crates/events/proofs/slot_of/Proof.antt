@@ -1,6 +1,6 @@
 -- `events::slot_of` meets its contract.
 use borrow.Author.Needs.{needs}
-use Rattle.rack.specs.Run.{slotOf}
+use Rattle.rack.specs.Looking.{slotOf}
 use Rattle.events.proofs.slot_of.Statement.{statement}
 use Rattle.events.proofs.slot_of.Tie as tie
 

@@ -14,7 +14,8 @@ use Rattle.method.specs.declared.Party.{Party}
 use Rattle.method.specs.declared.Decision.{Decision}
 use Rattle.method.specs.About.{clientIn, clientOf}
 use Rattle.rack.specs.Sound.{owedIn}
-use Rattle.rack.specs.Run.{inRack, slotOf, placeIn, noted, freed, checked}
+use Rattle.rack.specs.Refusals.{noted, freed, checked}
+use Rattle.rack.specs.Looking.{inRack, slotOf, placeIn}
 use Rattle.method.specs.Answers.{refusalIn}
 use Rattle.stamps.specs.laws.OnlyOne.{yes-not-no}
 use Rattle.method.specs.Same.{SameOutcome}

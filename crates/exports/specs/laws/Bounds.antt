@@ -39,7 +39,8 @@ use Rattle.method.specs.declared.Decision.the-variants.{No, Go}
 use Rattle.rack.specs.declared.Rack.{Rack}
 use Rattle.rack.specs.declared.Made.{Made}
 use Rattle.rack.specs.Sound.{settingsFit, soundOf}
-use Rattle.rack.specs.Run.{freshRack, madeOf, eventOf, decided, ranOf, turn, appliedOf, runFrom, runOf}
+use Rattle.rack.specs.Run.{freshRack, madeOf, eventOf, ranOf, turn, appliedOf, runFrom, runOf}
+use Rattle.rack.specs.Refusals.{decided}
 use Rattle.rack.specs.laws.Refusals.{decided-refuses}
 use Rattle.runs.specs.laws.Steps.{run-steps}
 use Rattle.layout.specs.declared.WordsAnswer.{WordsAnswer}

@@ -43,7 +43,9 @@ use Rattle.rack.specs.declared.Rack.{Rack}
 use Rattle.rack.specs.Places.{idle, partyAt, heldAt, roomOf, sentOf}
 use Rattle.rack.specs.Sound.{pairFits, workFits, owes, owedBy, owedIn, owed, soundOf}
 use Rattle.rack.specs.laws.SoundLaws.{Sound, sound-of, of-sound}
-use Rattle.rack.specs.Run.{eventOf, inRack, slotOf, placeIn, noted, freed, checked, decided, addressed, cleared, recorded, entriesIn, appliedOf, ranOf, turn, runFrom, runOf}
+use Rattle.rack.specs.Run.{eventOf, addressed, cleared, recorded, entriesIn, appliedOf, ranOf, turn, runFrom, runOf}
+use Rattle.rack.specs.Refusals.{noted, freed, checked, decided}
+use Rattle.rack.specs.Looking.{inRack, slotOf, placeIn}
 use Rattle.runs.specs.laws.Steps.{sound-from}
 use Rattle.layout.specs.Plain.{plain, plainParty}
 use Rattle.lent.specs.Plain.{plainRack, plainRan}

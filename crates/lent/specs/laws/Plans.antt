@@ -38,7 +38,7 @@ use Rattle.method.specs.Plan.{keptCounts, keptIn, keptOf, deliverIn, deliverOf,
 use Rattle.method.specs.laws.Tests.{either, never, and-left, and-right}
 use Rattle.rack.specs.declared.Settings.{Settings}
 use Rattle.rack.specs.Sound.{pairFits, bodyFits, heldFits}
-use Rattle.rack.specs.Run.{inRack}
+use Rattle.rack.specs.Looking.{inRack}
 use Rattle.rack.specs.laws.SoundLaws.{Sized, Named, named}
 use Rattle.layout.specs.laws.Trip.{entryFits}
 use Rattle.layout.specs.Plain.{plain}

@@ -36,9 +36,12 @@ use Rattle.rack.specs.declared.Settings.{Settings}
 use Rattle.rack.specs.declared.Rack.{Rack}
 use Rattle.rack.specs.Places.{empty, full, blank, idle, partyAt, heldIn, heldAt, freeAt, sentOf}
 use Rattle.rack.specs.Sound.{heldFits, workFits, bodyFits, soundOf}
-use Rattle.rack.specs.Run.{slotOf, placeIn, decided, addressed, cleared, recorded, entriesIn, appliedOf, eventOf, turn, runFrom, runOf}
+use Rattle.rack.specs.Run.{addressed, cleared, recorded, entriesIn, appliedOf, eventOf, turn, runFrom, runOf}
+use Rattle.rack.specs.Refusals.{decided}
+use Rattle.rack.specs.Looking.{slotOf, placeIn}
 use Rattle.rack.specs.laws.SoundLaws.{Sized, Sound, sound-of, named, ask-open, keep-open}
-use Rattle.rack.specs.laws.Decided.{lookedHeld, lookedClient, lookedParty, lookedPlace, lookedPair, Decided, decided-fits}
+use Rattle.rack.specs.laws.Decided.{Decided, decided-fits}
+use Rattle.rack.specs.Looking.{lookedHeld, lookedClient, lookedParty, lookedPlace, lookedPair}
 use Rattle.runs.specs.laws.Stays.{set-either, stays, sound-stays}
 use Rattle.runs.specs.laws.Steps.{sound-from}
 use Rattle.back.specs.laws.Agrees.{decided-plan}

@@ -16,7 +16,8 @@ use Rattle.method.specs.declared.Decision.the-variants.{No, Go}
 use Rattle.rack.specs.declared.Rack.{Rack}
 use Rattle.rack.specs.declared.Ran.{Ran}
 use Rattle.rack.specs.Sound.{soundOf}
-use Rattle.rack.specs.Run.{eventOf, decided, appliedOf, turn, ranOf, runFrom, runOf}
+use Rattle.rack.specs.Run.{eventOf, appliedOf, turn, ranOf, runFrom, runOf}
+use Rattle.rack.specs.Refusals.{decided}
 use Rattle.runs.specs.laws.Steps.{sound-from, run-steps, parts-off, used-up, too-few}
 use Rattle.runs.specs.Exact.{later}
 use Rattle.runs.specs.laws.Parts.{run-parts, run-stays}

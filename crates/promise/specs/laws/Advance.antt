@@ -11,7 +11,7 @@ use Rattle.method.specs.declared.Note.the-variants.{Nothing}
 use Rattle.method.specs.declared.Plan.{Plan}
 use Rattle.rack.specs.Places.{partyAt, recordOf}
 use Rattle.rack.specs.Run.{entriesIn, appliedOf}
-use Rattle.rack.specs.laws.Decided.{lookedClient, lookedPair}
+use Rattle.rack.specs.Looking.{lookedClient, lookedPair}
 use Rattle.protocol.specs.View.{Setting, Op, View}
 use Rattle.promise.specs.Setting.{settingOf}
 use Rattle.promise.specs.laws.SettingLaws.{nobody}

@@ -17,7 +17,8 @@ use Rattle.rack.specs.Places.{recordOf}
 use Rattle.rack.specs.Sound.{workFits}
 use Rattle.rack.specs.Run.{appliedOf}
 use Rattle.rack.specs.laws.SoundLaws.{KeepOpen, keep-open}
-use Rattle.rack.specs.laws.Decided.{lookedHeld, lookedClient, Looked, sight}
+use Rattle.rack.specs.laws.Decided.{Looked}
+use Rattle.rack.specs.Looking.{lookedHeld, lookedClient, sight}
 use Rattle.protocol.specs.View.{Setting, Op, View}
 use Rattle.protocol.specs.Message.{Kept as Has}
 use Rattle.protocol.specs.Move.{count, finish, counted, ended, changed}

@@ -15,7 +15,8 @@ use Rattle.method.specs.declared.Event.{Event}
 use Rattle.method.specs.declared.Plan.{Plan}
 use Rattle.rack.specs.Sound.{bodyFits, workFits}
 use Rattle.rack.specs.laws.SoundLaws.{Sized, AskOpen, ask-open}
-use Rattle.rack.specs.laws.Decided.{lookedHeld, lookedClient, Looked, sight}
+use Rattle.rack.specs.laws.Decided.{Looked}
+use Rattle.rack.specs.Looking.{lookedHeld, lookedClient, sight}
 use Rattle.protocol.specs.View.{Setting, Op, View}
 use Rattle.protocol.specs.Message.{Tell as Told, Keep as Chose}
 use Rattle.protocol.specs.Move.{hear, choose, heard, keeping, changed}

@@ -24,8 +24,9 @@ use Rattle.method.specs.declared.Note.the-variants.{Nothing, Asked, Ended}
 use Rattle.method.specs.declared.Plan.{Plan}
 use Rattle.method.specs.Plan.{messageOf}
 use Rattle.rack.specs.Places.{idle, partyAt, pairPlace, heldIn, recordOf}
-use Rattle.rack.specs.Run.{slotOf, entriesIn, recorded, addressed, cleared, appliedOf}
-use Rattle.rack.specs.laws.Decided.{lookedClient, lookedParty, lookedPlace}
+use Rattle.rack.specs.Run.{entriesIn, recorded, addressed, cleared, appliedOf}
+use Rattle.rack.specs.Looking.{slotOf}
+use Rattle.rack.specs.Looking.{lookedClient, lookedParty, lookedPlace}
 use Rattle.protocol.specs.View.{Setting, Op, View}
 use Rattle.protocol.specs.Move.{Reached}
 use Rattle.promise.specs.Setting.{settingOf}

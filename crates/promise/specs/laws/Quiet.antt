@@ -13,7 +13,8 @@ use Rattle.rack.specs.declared.Rack.{Rack}
 use Rattle.method.specs.declared.Event.{Event}
 use Rattle.method.specs.declared.Plan.{Plan}
 use Rattle.rack.specs.Places.{partyAt}
-use Rattle.rack.specs.laws.Decided.{lookedHeld, lookedClient, lookedParty, lookedPair, Looked, sight}
+use Rattle.rack.specs.laws.Decided.{Looked}
+use Rattle.rack.specs.Looking.{lookedHeld, lookedClient, lookedParty, lookedPair, sight}
 use Rattle.protocol.specs.View.{Setting, View}
 use Rattle.protocol.specs.Message.{Tell as Told}
 use Rattle.protocol.specs.laws.Stays.{tell-true}

@@ -20,9 +20,12 @@ use Rattle.method.specs.declared.Decision.the-variants.{No, Go}
 use Rattle.method.specs.Plan.{planOf}
 use Rattle.rack.specs.Places.{slotLimit, empty, idle, pairPlace, roomOf, recordOf}
 use Rattle.rack.specs.Sound.{owed, soundOf}
-use Rattle.rack.specs.Run.{freshRack, inRack, checked, decided, entriesIn, appliedOf, eventOf, turn, ranOf, runFrom, runOf}
+use Rattle.rack.specs.Run.{freshRack, entriesIn, appliedOf, eventOf, turn, ranOf, runFrom, runOf}
+use Rattle.rack.specs.Refusals.{checked, decided}
+use Rattle.rack.specs.Looking.{inRack}
 use Rattle.rack.specs.laws.SoundLaws.{Sound, sound-of}
-use Rattle.rack.specs.laws.Decided.{lookedHeld, lookedClient, Decided, decided-fits, checked-go, sight}
+use Rattle.rack.specs.laws.Decided.{Decided, decided-fits, checked-go}
+use Rattle.rack.specs.Looking.{lookedHeld, lookedClient, sight}
 use Rattle.runs.specs.laws.Stays.{stays, sound-stays}
 use Rattle.protocol.specs.View.{View}
 use Rattle.protocol.specs.Move.{fresh, first}

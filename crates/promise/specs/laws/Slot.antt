@@ -15,9 +15,10 @@ use Rattle.method.specs.declared.Event.{Event}
 use Rattle.method.specs.declared.Plan.{Plan}
 use Rattle.rack.specs.Places.{pairPlace}
 use Rattle.rack.specs.Sound.{bodyFits, heldFits}
-use Rattle.rack.specs.Run.{slotOf, placeIn}
+use Rattle.rack.specs.Looking.{slotOf, placeIn}
 use Rattle.rack.specs.laws.SoundLaws.{Named, named}
-use Rattle.rack.specs.laws.Decided.{lookedHeld, lookedClient, lookedPlace, lookedPair, Looked}
+use Rattle.rack.specs.laws.Decided.{Looked}
+use Rattle.rack.specs.Looking.{lookedHeld, lookedClient, lookedPlace, lookedPair}
 use Rattle.protocol.specs.View.{Setting, View}
 use Rattle.promise.specs.Setting.{settingOf}
 use Rattle.method.specs.Method.{Got}

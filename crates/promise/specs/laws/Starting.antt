@@ -19,7 +19,8 @@ use Rattle.method.specs.declared.Plan.{Plan}
 use Rattle.rack.specs.Places.{partyAt, recordOf}
 use Rattle.rack.specs.Run.{appliedOf}
 use Rattle.rack.specs.laws.SoundLaws.{Sized}
-use Rattle.rack.specs.laws.Decided.{lookedClient, Looked, sight}
+use Rattle.rack.specs.laws.Decided.{Looked}
+use Rattle.rack.specs.Looking.{lookedClient, sight}
 use Rattle.protocol.specs.View.{Setting, Op, View}
 use Rattle.protocol.specs.Move.{start, changed}
 use Rattle.promise.specs.laws.SettingLaws.{client-rank}

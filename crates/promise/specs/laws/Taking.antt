@@ -16,7 +16,8 @@ use Rattle.method.specs.declared.Plan.{Plan}
 use Rattle.rack.specs.Places.{pairPlace}
 use Rattle.rack.specs.Sound.{bodyFits}
 use Rattle.rack.specs.laws.SoundLaws.{Sized}
-use Rattle.rack.specs.laws.Decided.{lookedHeld, lookedClient, lookedParty, lookedPlace, lookedPair, Looked, sight}
+use Rattle.rack.specs.laws.Decided.{Looked}
+use Rattle.rack.specs.Looking.{lookedHeld, lookedClient, lookedParty, lookedPlace, lookedPair, sight}
 use Rattle.protocol.specs.View.{Setting, Pair as Seen, View}
 use Rattle.protocol.specs.Message.{Keep as Chose}
 use Rattle.protocol.specs.Move.{Move, take, put, newerOf, stored, then}

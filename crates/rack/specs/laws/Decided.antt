@@ -1,68 +1,43 @@
 -- What an event of a sound rack looks at is there, and what is decided on it stays in the rack.
 use Prim.Native.Nat.{ℕ, _+_, _≤_, _<_}
-use mathlib.Core.Path.{_≡_, refl, subst}
-use mathlib.Core.Bool.{Bool, true, false, cond}
+use mathlib.Core.Path.{_≡_, refl, ap, sym, _∙_, subst}
+use mathlib.Core.Bool.{Bool, true, false, cond, not, _&&_}
 use native.Mathlib.Omega.{arith}
 use lib.Dec.{ltb}
 use lib.ListN.{getD}
 use lib.Count.{ones}
 use borrow.Author.Tests.{ltb-true, ltb-false}
 use Rattle.record.specs.Record.{entryLimit}
-use Rattle.stamps.specs.declared.Pair.{Pair}
+use Rattle.stamps.specs.Stamp.{freshPair}
 use Rattle.method.specs.declared.InSlot.{InSlot}
 use Rattle.method.specs.declared.InSlot.the-variants.{Empty, Full}
-use Rattle.method.specs.declared.Party.{Party}
-use Rattle.rack.specs.declared.Settings.{Settings}
-use Rattle.rack.specs.declared.Rack.{Rack}
-use Rattle.stamps.specs.Stamp.{freshPair}
-use Rattle.method.specs.declared.Sight.{Sight}
 use Rattle.method.specs.declared.Event.{Event}
 use Rattle.method.specs.declared.Event.the-variants.{StartRead, StartWrite, Deliver, Lose, Copy, Resend, Stop, Off, On, Unknown}
-use Rattle.method.specs.declared.Note.{Note}
-use Rattle.method.specs.declared.Note.the-variants.{Nothing, Asked, Ended}
 use Rattle.method.specs.declared.Plan.{Plan}
 use Rattle.method.specs.declared.Decision.{Decision}
 use Rattle.method.specs.declared.Decision.the-variants.{No, Go}
-use Rattle.method.specs.Plan.{planOf}
-use Rattle.rack.specs.Places.{slotLimit, partyAt, heldAt, roomOf}
-use Rattle.rack.specs.Sound.{pairFits, heldFits, workFits, owedBy, owed, soundOf}
 use Rattle.method.specs.About.{clientIn, clientOf}
-use Rattle.rack.specs.Run.{inRack, slotOf, placeIn, noted, freed, checked, decided, entriesIn}
-use Rattle.method.specs.laws.Tests.{and-left}
+use Rattle.method.specs.Method.{Delivers, Does}
+use Rattle.method.specs.Method.Delivers.{tells, takes, hears, chooses, counts, ends, spends}
+use Rattle.method.specs.Refusals.{isUnknown, isStart, isDelivery, slotEmpty, clientStopped, alreadyOpen, noneOpen, replicaOff, switchedSo, opSpent, numberSpent, decisionOf}
+use Rattle.method.specs.laws.Tests.{never, and-left}
+use Rattle.method.specs.laws.MethodLaws.{method}
+use Rattle.rack.specs.declared.Settings.{Settings}
+use Rattle.rack.specs.declared.Rack.{Rack}
+use Rattle.rack.specs.Places.{slotLimit, pairLimit, roomOf}
+use Rattle.rack.specs.Sound.{pairFits, heldFits, workFits, owedBy, owed, soundOf}
+use Rattle.rack.specs.Looking.{inRack, slotOf, placeIn, lookedHeld, lookedClient, lookedParty, lookedPlace, lookedPair, sight}
+use Rattle.rack.specs.Refusals.{planFor, recordFull, freed, wireFull, applies, decided}
+use Rattle.rack.specs.Run.{entriesIn}
 use Rattle.rack.specs.laws.SoundLaws.{Sized, named, Sound, sound-of}
-use Rattle.rack.specs.laws.PlanLaws.{keptFor, PlanFits, OutcomeFits, plan-fits}
-
--- ---- what an event looks at
-
--- what the slot that it names holds
-abbrev pub lookedHeld : Rack → Event → InSlot
-lookedHeld r e = heldAt r (slotOf e)
-
--- its client: the one that it names, else its message's
-abbrev pub lookedClient : Rack → Event → ℕ
-lookedClient r e = clientOf e (lookedHeld r e)
-
--- that client, as it now stands
-abbrev pub lookedParty : Rack → Event → Party
-lookedParty r e = partyAt r (lookedClient r e)
-
--- the place of the pair that its message is about
-abbrev pub lookedPlace : Rack → Event → ℕ
-lookedPlace r e = placeIn (lookedHeld r e)
-
--- the pair that its message is about
-abbrev pub lookedPair : Rack → Event → Pair
-lookedPair r e = getD (r .pairs) (lookedPlace r e) freshPair
-
--- all that it looks at
-abbrev pub sight : Rack → Event → Sight
-sight r e = record { replicas = r .settings .replicas; power = r .power; party = lookedParty r e; pair = lookedPair r e }
+use Rattle.rack.specs.laws.PlanLaws.{keptFor, PlanFits, plan-fits}
+use Rattle.rack.specs.laws.Table.{known, decided-go, decided-none}
 
 -- what it looks at is there, and names only what the rack has
 pub record Looked (r : Rack) (e : Event) : Type 0 where
   pub slot : slotOf e < slotLimit
   pub client : lookedClient r e < r .settings .clients
-  pub place : lookedPlace r e < 240
+  pub place : lookedPlace r e < pairLimit
   pub held : heldFits (r .settings) (lookedHeld r e) ≡ true
   pub work : workFits (r .settings) (lookedParty r e .work) ≡ true
   pub pair : pairFits (r .settings) (lookedPair r e) ≡ true
@@ -98,7 +73,7 @@ client-of z n held h (Off replica) i = n .some-client
 client-of z n held h (On replica) i = n .some-client
 client-of z n held h Unknown i = n .some-client
 
-place-in : (z : Settings) → Sized z → (held : InSlot) → heldFits z held ≡ true → placeIn held < 240
+place-in : (z : Settings) → Sized z → (held : InSlot) → heldFits z held ≡ true → placeIn held < pairLimit
 unfolding placeIn heldFits
 place-in z n Empty h = omega arith
 place-in z n (Full m) h = let q = named z m h in omega (arith, q .replica, q .cell, n .replicas, n .cells)
@@ -122,66 +97,98 @@ looked r s e i =
       pair = pair-in r s (lookedHeld r e) hh;
     }
 
--- ---- what is left of a plan after 11 and 13
-
-sent-go : (t : Bool) (q p : Plan) → cond t (No 13) (Go q) ≡ Go p → (t ≡ false) × (q ≡ p)
-sent-go true q p e = absurd (let z : _≡_ {A = ℕ} 0 1 = cc in omega arith)
-sent-go false q p e = (refl, cc)
-
-noted-go : (n : Note) (taken : ℕ) (o : Decision) (p : Plan) → taken ≤ entryLimit → noted n taken o ≡ Go p → (o ≡ Go p) × (taken + keptFor n ≤ entryLimit)
-unfolding noted
-noted-go Nothing taken o p h e = (e, omega arith)
-noted-go (Ended x) taken o p h e = (e, omega arith)
-noted-go (Asked x) taken o p h e = go (ltb entryLimit (taken + 2)) refl e
-  where
-    go : (t : Bool) → ltb entryLimit (taken + 2) ≡ t → cond t (No 11) o ≡ Go p → (o ≡ Go p) × (taken + 2 ≤ entryLimit)
-    go true q w = absurd (let z : _≡_ {A = ℕ} 0 1 = cc in omega arith)
-    go false q w = (w, ltb-false entryLimit (taken + 2) q)
-
--- the plan p passes 11 and 13: the record has room for its entries and the wire has slots for its messages
-pub record Passed (o : Decision) (taken free : ℕ) (p : Plan) : Type 0 where
-  pub same : o ≡ Go p
-  pub entries : taken + keptFor (p .note) ≤ entryLimit
-  pub room : ones (p .to) ≤ free + freed (p .clear)
-
-pub checked-go : (o : Decision) (taken room : ℕ) (p : Plan) → taken ≤ entryLimit → checked o taken room ≡ Go p → Passed o taken room p
-unfolding checked
-checked-go (No k) taken room p h e = absurd (let z : _≡_ {A = ℕ} 0 1 = cc in omega arith)
-checked-go (Go q) taken room p h e =
-    let a = noted-go (q .note) taken (cond (ltb (room + freed (q .clear)) (ones (q .to))) (No 13) (Go q)) p h e in
-    let b = sent-go (ltb (room + freed (q .clear)) (ones (q .to))) q p (a .0) in
-    subst (λ (x : Plan). Passed (Go q) taken room x) (b .1)
-    (record { same = refl; entries = a .1; room = ltb-false (room + freed (q .clear)) (ones (q .to)) (b .0) })
-
 -- ---- an event that is done
 
--- what holds where p is the plan of an event that is done: it is of this rack, and what it leaves and sends fits
+-- what holds where p is the plan of an event that is done: the rack is sound, the event is of this rack, it does what the method says, and what it leaves and
+-- sends fits
 pub record Decided (r : Rack) (e : Event) (p : Plan) : Type 0 where
   pub inside : inRack (r .settings) e ≡ true
   pub looked : Looked r e
+  pub does : Does (sight r e) (lookedHeld r e) e p
   pub fits : PlanFits (r .settings) (lookedParty r e) (lookedHeld r e) p
   pub entries : r .count + entriesIn (p .note) + owed r + owedBy (p .party) ≤ entryLimit + owedBy (lookedParty r e)
   pub room : ones (p .to) ≤ roomOf (r .wire) + freed (p .clear)
 
--- the plan that passed is the plan for the event
-in-go : (t : Bool) (o : Decision) (p : Plan) → cond t o (No 3) ≡ Go p → (t ≡ true) × (o ≡ Go p)
-in-go true o p e = (refl, e)
-in-go false o p e = absurd (let z : _≡_ {A = ℕ} 0 1 = cc in omega arith)
+-- a test that fails the other way about
+not-false : (t : Bool) → not t ≡ false → t ≡ true
+not-false true q = refl
+not-false false q = never (sym q)
+
+-- 2: an event is done on a sound rack only
+pub decided-sound : (r : Rack) (e : Event) (p : Plan) → decided r e ≡ Go p → soundOf r ≡ true
+unfolding applies
+decided-sound r e p d = not-false (soundOf r) (decided-none r e p d 2)
+
+-- 3: its numbers are in the rack
+pub decided-inside : (r : Rack) (e : Event) (p : Plan) → decided r e ≡ Go p → inRack (r .settings) e ≡ true
+unfolding applies
+decided-inside r e p d = not-false (inRack (r .settings) e) (decided-none r e p d 3)
+
+-- its plan is the one that its sight gives, and is of the method
+pub decided-plan : (r : Rack) (e : Event) (p : Plan) → decided r e ≡ Go p → decisionOf (sight r e) (lookedHeld r e) e ≡ Go p
+unfolding applies decisionOf
+decided-plan r e p d =
+    let n = decided-none r e p d in
+    let i = known (r .settings) e (decided-inside r e p d) in
+    rw (i, n 4, n 5, n 6, n 7, n 8, n 9, n 10, n 12) (ap Go (decided-go r e p d .1))
+
+pub decided-does : (r : Rack) (e : Event) (p : Plan) → decided r e ≡ Go p → Does (sight r e) (lookedHeld r e) e p
+decided-does r e p d = method (sight r e) (lookedHeld r e) e p (decided-plan r e p d)
+
+-- 11: the record has room for the entry of a start, and its answer
+note-room : (r : Rack) (e : Event) (p : Plan) → Does (sight r e) (lookedHeld r e) e p → recordFull r e ≡ false → r .count + owed r ≤ entryLimit
+    → r .count + owed r + keptFor (p .note) ≤ entryLimit
+unfolding recordFull isStart
+note-room r e p x f h = go (lookedHeld r e) e x f
+  where
+    Room : Plan → Type 0
+    Room q = r .count + owed r + keptFor (q .note) ≤ entryLimit
+
+    delivered : (m : _) → Delivers (sight r e) m p → Room p
+    delivered m (tells y) = subst Room (sym (y .plan)) (omega arith)
+    delivered m (takes y) = subst Room (sym (y .plan)) (omega arith)
+    delivered m (hears y) = subst Room (sym (y .plan)) (omega arith)
+    delivered m (chooses y) = subst Room (sym (y .plan)) (omega arith)
+    delivered m (counts y) = subst Room (sym (y .plan)) (omega arith)
+    delivered m (ends y) = subst Room (sym (y .plan)) (omega arith)
+    delivered m (spends y) = subst Room (sym y) (omega arith)
+
+    go : (held : InSlot) (ev : Event) → Does (sight r e) held ev p → (isStart ev && ltb entryLimit (r .count + owed r + 2)) ≡ false → Room p
+    go held (StartRead client cell) y q = subst Room (sym (y .plan)) (ltb-false entryLimit (r .count + owed r + 2) q)
+    go held (StartWrite client cell v) y q = subst Room (sym (y .plan)) (ltb-false entryLimit (r .count + owed r + 2) q)
+    go Empty (Deliver slot) y q = absurd y
+    go (Full m) (Deliver slot) y q = delivered m y
+    go Empty (Lose slot) y q = absurd y
+    go (Full m) (Lose slot) y q = subst Room (sym y) (omega arith)
+    go Empty (Copy slot) y q = absurd y
+    go (Full m) (Copy slot) y q = subst Room (sym y) (omega arith)
+    go held (Resend client) y q = subst Room (sym (y .plan)) (omega arith)
+    go held (Stop client) y q = subst Room (sym (y .plan)) (omega arith)
+    go held (Off replica) y q = subst Room (sym (y .plan)) (omega arith)
+    go held (On replica) y q = subst Room (sym (y .plan)) (omega arith)
+    go held Unknown y q = absurd y
+
+-- 13: the wire has room for what is sent
+sent-room : (r : Rack) (e : Event) (p : Plan) → decided r e ≡ Go p → ones (p .to) ≤ roomOf (r .wire) + freed (p .clear)
+unfolding applies wireFull
+sent-room r e p d =
+    let f : ltb (roomOf (r .wire) + freed (planFor r e .clear)) (ones (planFor r e .to)) ≡ false = decided-none r e p d 13 in
+    subst (λ (q : Plan). ones (q .to) ≤ roomOf (r .wire) + freed (q .clear)) (decided-go r e p d .1)
+    (ltb-false (roomOf (r .wire) + freed (planFor r e .clear)) (ones (planFor r e .to)) f)
 
 pub decided-fits : (r : Rack) (e : Event) (p : Plan) → soundOf r ≡ true → decided r e ≡ Go p → Decided r e p
-unfolding decided
+unfolding applies
 decided-fits r e p h d =
     let s = sound-of r h in
-    let a = in-go (inRack (r .settings) e) (checked (planOf (sight r e) (lookedHeld r e) e) (r .count + owed r) (roomOf (r .wire))) p d in
-    let l = looked r s e (a .0) in
-    let c = checked-go (planOf (sight r e) (lookedHeld r e) e) (r .count + owed r) (roomOf (r .wire)) p (s .entries) (a .1) in
-    let f : OutcomeFits (r .settings) (lookedParty r e) (lookedHeld r e) (Go p) =
-    subst (OutcomeFits (r .settings) (lookedParty r e) (lookedHeld r e)) (c .same)
-    (plan-fits (r .settings) (s .settings) (r .power) (lookedParty r e) (lookedPair r e) (l .work) (l .pair) (lookedHeld r e) (l .held) e (a .0)) in
+    let i = decided-inside r e p d in
+    let l = looked r s e i in
+    let x = decided-does r e p d in
+    let f = plan-fits (r .settings) (s .settings) (r .power) (lookedParty r e) (lookedPair r e) (l .work) (l .pair) (lookedHeld r e) (l .held) e i p x in
     record {
-      inside = a .0;
+      inside = i;
       looked = l;
+      does = x;
       fits = f;
-      entries = omega (arith, f .entries, c .entries);
-      room = c .room;
+      entries = omega (arith, f .entries, note-room r e p x (decided-none r e p d 11) (s .entries));
+      room = sent-room r e p d;
     }

@@ -7,7 +7,7 @@ use borrow.Author.Tests.{le-ltb}
 use Rattle.method.specs.declared.Note.the-variants.{Nothing}
 use Rattle.method.specs.declared.Plan.{Plan}
 use Rattle.method.specs.declared.Decision.the-variants.{Go}
-use Rattle.rack.specs.Run.{noted, freed, checked}
+use Rattle.rack.specs.Refusals.{noted, freed, checked}
 
 -- a delivered slot counts as free for what its delivery sends: with one more to send than free slots it is done
 pub delivered-slot-is-free : (p : Plan) (taken room : ℕ) → p .clear ≡ true → p .note ≡ Nothing → ones (p .to) ≤ room + 1 → checked (Go p) taken room ≡ Go p

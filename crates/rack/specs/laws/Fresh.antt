@@ -21,7 +21,7 @@ madeIf t replicas clients cells =
 module _ (replicas clients cells : ℕ) where
   -- the three sizes that the maker is given
   abbrev sizes : Settings
-  settings = record { replicas = replicas; clients = clients; cells = cells }
+  sizes = record { replicas = replicas; clients = clients; cells = cells }
 
   slot : (i : ℕ) → i < slotLimit → heldFits sizes (heldAt (freshRack replicas clients cells) i) ≡ true
   unfolding freshRack heldFits

@@ -16,7 +16,7 @@ use Rattle.method.specs.declared.Event.the-variants.{StartRead, StartWrite, Del
 use Rattle.rack.specs.declared.Made.{Made}
 use Rattle.method.specs.Plan.{activeParty}
 use Rattle.rack.specs.Places.{idle}
-use Rattle.rack.specs.Sound.{settingsFit, pairFits, bodyFits, messageFits, heldFits, workFits, owes, owedBy, soundOf, owedIn}
+use Rattle.rack.specs.Sound.{settingsFit, pairFits, bodyFits, messageFits, heldFits, holdingFits, phaseFits, operationFits, workFits, owes, owedBy, soundOf, owedIn}
 use Rattle.rack.specs.Run.{freshRack, madeOf, byte, eventOf}
 use Rattle.rack.specs.laws.Fresh.{fresh-sound}
 use Rattle.rack.specs.Answers.{kindIn, firstIn, cellIn, valueIn}
@@ -93,15 +93,15 @@ not-held-replica-3 r p q = yes-not-no q p
 
 -- two of three are a majority already, replica 3 isn't there, and one of three is fine
 pub not-majority-open : (r : Bool) → r ≡ workFits sizes (told 0b011) → r ≡ true → ⊥
-unfolding workFits pairFits within asksEnough majority ones
+unfolding workFits operationFits phaseFits holdingFits pairFits within asksEnough majority ones
 not-majority-open r p q = yes-not-no q p
 
 pub not-fourth-told : (r : Bool) → r ≡ workFits sizes (told 0b1000) → r ≡ true → ⊥
-unfolding workFits pairFits within
+unfolding workFits operationFits pairFits within
 not-fourth-told r p q = yes-not-no q p
 
 pub not-one-unfit : (r : Bool) → r ≡ workFits sizes (told 0b001) → r ≡ false → ⊥
-unfolding workFits pairFits within asksEnough majority ones
+unfolding workFits operationFits phaseFits holdingFits pairFits within asksEnough majority ones
 not-one-unfit r p q = yes-not-no p q
 
 -- ---- owed_by, owed_by_all

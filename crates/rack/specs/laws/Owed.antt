@@ -9,7 +9,7 @@ use lib.ListN.{getD, set, length}
 use lib.Seq.{getD-set-same, getD-set-other}
 use borrow.Author.Tests.{eqb-true, eqb-false, ltb-true, ltb-false}
 use Rattle.method.specs.declared.Work.{Work}
-use Rattle.method.specs.declared.Work.the-variants.{Idle, Asking, Keeping}
+use Rattle.method.specs.declared.Work.the-variants.{Idle, Open}
 use Rattle.method.specs.declared.Party.{Party}
 use Rattle.rack.specs.declared.Rack.{Rack}
 use Rattle.rack.specs.Places.{idle}
@@ -24,8 +24,7 @@ owed-in r = refl
 owes-most : (w : Work) → owes w ≤ 1
 unfolding owes
 owes-most Idle = omega arith
-owes-most (Asking cell goal set held) = omega arith
-owes-most (Keeping cell goal set held) = omega arith
+owes-most (Open o) = omega arith
 
 pub owed-one : (p : Party) → owedBy p ≤ 1
 unfolding owedBy

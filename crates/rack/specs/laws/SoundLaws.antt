@@ -1,24 +1,28 @@
 -- A sound rack part by part: what each test says, and back.
 use Prim.Native.Nat.{ℕ, _+_, _≤_, _<_}
 use mathlib.Core.Path.{_≡_, ap}
-use mathlib.Core.Bool.{Bool, true, false, not, _&&_, _||_}
-use mathlib.Core.Logic.{_⊎_, inl, inr, ⊎-elim}
+use mathlib.Core.Bool.{Bool, true, false, not, _&&_}
+use mathlib.Core.Logic.{_≢_}
 use native.Mathlib.Omega.{arith}
 use lib.Dec.{ltb, leb, eqb}
 use lib.ListN.{set}
-use borrow.Author.Tests.{lt-ltb, ltb-true, le-leb, leb-true, eqb-true, eq-eqb, not-true}
+use borrow.Author.Tests.{lt-ltb, ltb-true, le-leb, leb-true, eqb-true, eqb-false, eq-eqb, ne-eqb, not-true}
+use Rattle.record.specs.Entry.{clientLimit, cellLimit}
 use Rattle.record.specs.Record.{entryLimit}
-use Rattle.record.specs.declared.Cell.{Cell}
 use Rattle.quorum.specs.Sets.{setBits, within, asksEnough, keepsEnough}
 use Rattle.stamps.specs.declared.Pair.{Pair}
 use Rattle.method.specs.declared.Message.{Message}
-use Rattle.method.specs.declared.Goal.{Goal}
-use Rattle.method.specs.declared.Work.the-variants.{Asking, Keeping}
+use Rattle.method.specs.declared.Holding.{Holding}
+use Rattle.method.specs.declared.Holding.the-variants.{NoPair, Holds}
+use Rattle.method.specs.declared.Phase.{Phase}
+use Rattle.method.specs.declared.Phase.the-variants.{Asking, Keeping}
+use Rattle.method.specs.declared.Operation.{Operation}
+use Rattle.method.specs.declared.Work.the-variants.{Open}
 use Rattle.rack.specs.declared.Settings.{Settings}
 use Rattle.rack.specs.declared.Rack.{Rack}
-use Rattle.rack.specs.Places.{slotLimit, partyAt, pairAt, heldAt}
-use Rattle.rack.specs.Sound.{allBelow, settingsFit, pairFits, bodyFits, messageFits, heldFits, workFits, owed, wireFits, pairsFit, partiesFit, recordFits, soundOf}
-use Rattle.method.specs.laws.Tests.{and-left, and-right, and-true, or-cases, or-left, or-right}
+use Rattle.rack.specs.Places.{slotLimit, replicaLimit, partyAt, pairAt, heldAt}
+use Rattle.rack.specs.Sound.{allBelow, settingsFit, pairFits, bodyFits, messageFits, heldFits, quorumsOf, holdingFits, phaseFits, operationFits, workFits, owed, wireFits, pairsFit, partiesFit, recordFits, soundOf}
+use Rattle.method.specs.laws.Tests.{and-left, and-right, and-true}
 use Rattle.rack.specs.laws.Tests.{all-at, all-of}
 
 -- ---- sizes
@@ -26,38 +30,38 @@ use Rattle.rack.specs.laws.Tests.{all-at, all-of}
 -- 1 to 15 replicas, 1 to 8 clients and 1 to 16 cells
 pub record Sized (z : Settings) : Type 0 where
   pub some-replica : 1 ≤ z .replicas
-  pub replicas : z .replicas ≤ 15
+  pub replicas : z .replicas ≤ replicaLimit
   pub some-client : 1 ≤ z .clients
-  pub clients : z .clients ≤ 8
+  pub clients : z .clients ≤ clientLimit
   pub some-cell : 1 ≤ z .cells
-  pub cells : z .cells ≤ 16
+  pub cells : z .cells ≤ cellLimit
 
 pub sized : (z : Settings) → settingsFit z ≡ true → Sized z
 unfolding settingsFit
 sized z e =
-    let a : Bool = leb 1 (z .replicas) && leb (z .replicas) 15 in
-    let b : Bool = leb 1 (z .clients) && leb (z .clients) 8 in
-    let c : Bool = leb 1 (z .cells) && leb (z .cells) 16 in
+    let a : Bool = leb 1 (z .replicas) && leb (z .replicas) replicaLimit in
+    let b : Bool = leb 1 (z .clients) && leb (z .clients) clientLimit in
+    let c : Bool = leb 1 (z .cells) && leb (z .cells) cellLimit in
     let ea : a ≡ true = and-left a (b && c) e in
     let eb : b ≡ true = and-left b c (and-right a (b && c) e) in
     let ec : c ≡ true = and-right b c (and-right a (b && c) e) in
     record {
-      some-replica = leb-true 1 (z .replicas) (and-left (leb 1 (z .replicas)) (leb (z .replicas) 15) ea);
-      replicas = leb-true (z .replicas) 15 (and-right (leb 1 (z .replicas)) (leb (z .replicas) 15) ea);
-      some-client = leb-true 1 (z .clients) (and-left (leb 1 (z .clients)) (leb (z .clients) 8) eb);
-      clients = leb-true (z .clients) 8 (and-right (leb 1 (z .clients)) (leb (z .clients) 8) eb);
-      some-cell = leb-true 1 (z .cells) (and-left (leb 1 (z .cells)) (leb (z .cells) 16) ec);
-      cells = leb-true (z .cells) 16 (and-right (leb 1 (z .cells)) (leb (z .cells) 16) ec);
+      some-replica = leb-true 1 (z .replicas) (and-left (leb 1 (z .replicas)) (leb (z .replicas) replicaLimit) ea);
+      replicas = leb-true (z .replicas) replicaLimit (and-right (leb 1 (z .replicas)) (leb (z .replicas) replicaLimit) ea);
+      some-client = leb-true 1 (z .clients) (and-left (leb 1 (z .clients)) (leb (z .clients) clientLimit) eb);
+      clients = leb-true (z .clients) clientLimit (and-right (leb 1 (z .clients)) (leb (z .clients) clientLimit) eb);
+      some-cell = leb-true 1 (z .cells) (and-left (leb 1 (z .cells)) (leb (z .cells) cellLimit) ec);
+      cells = leb-true (z .cells) cellLimit (and-right (leb 1 (z .cells)) (leb (z .cells) cellLimit) ec);
     }
 
 pub sizes-fit : (z : Settings) → Sized z → settingsFit z ≡ true
 unfolding settingsFit
 sizes-fit z s =
     and-true _ _
-    (and-true _ _ (le-leb 1 (z .replicas) (s .some-replica)) (le-leb (z .replicas) 15 (s .replicas)))
+    (and-true _ _ (le-leb 1 (z .replicas) (s .some-replica)) (le-leb (z .replicas) replicaLimit (s .replicas)))
     (and-true _ _
-    (and-true _ _ (le-leb 1 (z .clients) (s .some-client)) (le-leb (z .clients) 8 (s .clients)))
-    (and-true _ _ (le-leb 1 (z .cells) (s .some-cell)) (le-leb (z .cells) 16 (s .cells))))
+    (and-true _ _ (le-leb 1 (z .clients) (s .some-client)) (le-leb (z .clients) clientLimit (s .clients)))
+    (and-true _ _ (le-leb 1 (z .cells) (s .some-cell)) (le-leb (z .cells) cellLimit (s .cells))))
 
 -- a set has a bit for each replica
 pub bits-enough : (z : Settings) → Sized z → z .replicas ≤ setBits
@@ -104,72 +108,73 @@ message-fits z m n =
 
 -- ---- open operations
 
--- in the ask phase: cell x and, once a tell is held, pair p are of this rack, and the set s has its replicas only and no majority
-pub record AskOpen (z : Settings) (x : Cell) (s : ℕ) (p : Pair) : Type 0 where
-  pub cell : x .0 < z .cells
-  pub held : (s ≡ 0) ⊎ (pairFits z p ≡ true)
-  pub set : within (z .replicas) s ≡ true
-  pub few : asksEnough (z .replicas) s ≡ false
+-- what is held in the ask phase: nothing while nobody has told, and then a pair of this rack
+abbrev pub HoldingFits : Settings → ℕ → Holding → Type 0
+HoldingFits z set NoPair = set ≡ 0
+HoldingFits z set (Holds p) = (set ≢ 0) × (pairFits z p ≡ true)
 
-pub ask-open : (z : Settings) (cell : Cell) (goal : Goal) (set : ℕ) (held : Pair) → workFits z (Asking cell goal set held) ≡ true → AskOpen z cell set held
-unfolding workFits
-ask-open z cell goal set held e =
-    let a : Bool = ltb (cell .0) (z .cells) in
-    let b : Bool = eqb set 0 || pairFits z held in
-    let c : Bool = within (z .replicas) set in
-    let d : Bool = not (asksEnough (z .replicas) set) in
-    let first : (a && b) ≡ true = and-left (a && b) (c && d) e in
-    let second : (c && d) ≡ true = and-right (a && b) (c && d) e in
+pub holding-fits : (z : Settings) (set : ℕ) (held : Holding) → HoldingFits z set held → holdingFits z set held ≡ true
+unfolding holdingFits
+holding-fits z set NoPair h = eq-eqb set 0 h
+holding-fits z set (Holds p) h = and-true (not (eqb set 0)) (pairFits z p) (ap not (ne-eqb set 0 (h .0))) (h .1)
+
+pub holding-of : (z : Settings) (set : ℕ) (held : Holding) → holdingFits z set held ≡ true → HoldingFits z set held
+unfolding holdingFits
+holding-of z set NoPair e = eqb-true set 0 e
+holding-of z set (Holds p) e =
+    (eqb-false set 0 (not-true (eqb set 0) (and-left (not (eqb set 0)) (pairFits z p) e)), and-right (not (eqb set 0)) (pairFits z p) e)
+
+-- the phase: what is held fits, and the set isn't enough to end it
+abbrev pub PhaseFits : Settings → ℕ → Phase → Type 0
+PhaseFits z set (Asking held) = HoldingFits z set held × (asksEnough (quorumsOf z) set ≡ false)
+PhaseFits z set (Keeping held) = (pairFits z held ≡ true) × (keepsEnough (quorumsOf z) set ≡ false)
+
+phase-fits : (z : Settings) (set : ℕ) (ph : Phase) → PhaseFits z set ph → phaseFits z set ph ≡ true
+unfolding phaseFits
+phase-fits z set (Asking held) h =
+    and-true (holdingFits z set held) (not (asksEnough (quorumsOf z) set)) (holding-fits z set held (h .0)) (ap not (h .1))
+phase-fits z set (Keeping held) h = and-true (pairFits z held) (not (keepsEnough (quorumsOf z) set)) (h .0) (ap not (h .1))
+
+phase-of : (z : Settings) (set : ℕ) (ph : Phase) → phaseFits z set ph ≡ true → PhaseFits z set ph
+unfolding phaseFits
+phase-of z set (Asking held) e =
+    let a : Bool = holdingFits z set held in
+    let b : Bool = not (asksEnough (quorumsOf z) set) in
+    (holding-of z set held (and-left a b e), not-true (asksEnough (quorumsOf z) set) (and-right a b e))
+phase-of z set (Keeping held) e =
+    let a : Bool = pairFits z held in
+    let b : Bool = not (keepsEnough (quorumsOf z) set) in
+    (and-left a b e, not-true (keepsEnough (quorumsOf z) set) (and-right a b e))
+
+-- an open operation: its cell and what it holds are of this rack, and its set has the rack's replicas only and isn't enough
+pub record Opened (z : Settings) (o : Operation) : Type 0 where
+  pub cell : o .cell .0 < z .cells
+  pub set : within (z .replicas) (o .set) ≡ true
+  pub phase : PhaseFits z (o .set) (o .phase)
+
+pub opened : (z : Settings) (o : Operation) → workFits z (Open o) ≡ true → Opened z o
+unfolding workFits operationFits
+opened z o e =
+    let a : Bool = ltb (o .cell .0) (z .cells) in
+    let b : Bool = within (z .replicas) (o .set) in
+    let c : Bool = phaseFits z (o .set) (o .phase) in
+    let first : (a && b) ≡ true = and-left (a && b) c e in
     record {
-      cell = ltb-true (cell .0) (z .cells) (and-left a b first);
-      held = ⊎-elim (λ p. inl (eqb-true set 0 p)) (λ p. inr p) (or-cases (eqb set 0) (pairFits z held) (and-right a b first));
-      set = and-left c d second;
-      few = not-true (asksEnough (z .replicas) set) (and-right c d second);
+      cell = ltb-true (o .cell .0) (z .cells) (and-left a b first);
+      set = and-right a b first;
+      phase = phase-of z (o .set) (o .phase) (and-right (a && b) c e);
     }
 
-pub ask-fits : (z : Settings) (cell : Cell) (goal : Goal) (set : ℕ) (held : Pair) → AskOpen z cell set held → workFits z (Asking cell goal set held) ≡ true
-unfolding workFits
-ask-fits z cell goal set held a =
-    and-true _ _
-    (and-true _ _ (lt-ltb (cell .0) (z .cells) (a .cell))
-    (⊎-elim
-    (λ p. or-left (eqb set 0) (pairFits z held) (eq-eqb set 0 p))
-    (λ p. or-right (eqb set 0) (pairFits z held) p) (a .held)))
-    (and-true _ _ (a .set) (ap not (a .few)))
-
--- in the keep phase: cell x and pair p are of this rack, and the set s has its replicas only and no majority
-pub record KeepOpen (z : Settings) (x : Cell) (s : ℕ) (p : Pair) : Type 0 where
-  pub cell : x .0 < z .cells
-  pub held : pairFits z p ≡ true
-  pub set : within (z .replicas) s ≡ true
-  pub few : keepsEnough (z .replicas) s ≡ false
-
-pub keep-open : (z : Settings) (cell : Cell) (goal : Goal) (set : ℕ) (held : Pair) → workFits z (Keeping cell goal set held) ≡ true → KeepOpen z cell set held
-unfolding workFits
-keep-open z cell goal set held e =
-    let a : Bool = ltb (cell .0) (z .cells) in
-    let b : Bool = pairFits z held in
-    let c : Bool = within (z .replicas) set in
-    let d : Bool = not (keepsEnough (z .replicas) set) in
-    let first : (a && b) ≡ true = and-left (a && b) (c && d) e in
-    let second : (c && d) ≡ true = and-right (a && b) (c && d) e in
-    record {
-      cell = ltb-true (cell .0) (z .cells) (and-left a b first);
-      held = and-right a b first;
-      set = and-left c d second;
-      few = not-true (keepsEnough (z .replicas) set) (and-right c d second);
-    }
-
-pub keep-fits : (z : Settings) (cell : Cell) (goal : Goal) (set : ℕ) (held : Pair) → KeepOpen z cell set held → workFits z (Keeping cell goal set held) ≡ true
-unfolding workFits
-keep-fits z cell goal set held a =
-    and-true _ _ (and-true _ _ (lt-ltb (cell .0) (z .cells) (a .cell)) (a .held)) (and-true _ _ (a .set) (ap not (a .few)))
+pub open-fits : (z : Settings) (o : Operation) → Opened z o → workFits z (Open o) ≡ true
+unfolding workFits operationFits
+open-fits z o h =
+    and-true _ _ (and-true _ _ (lt-ltb (o .cell .0) (z .cells) (h .cell)) (h .set)) (phase-fits z (o .set) (o .phase) (h .phase))
 
 -- ---- the whole rack
 
 -- every part is sound: the sizes, the wire, the pairs, the open operations, and entries + answers owed
 pub record Sound (r : Rack) : Type 0 where
-  pub sizes : Sized (r .settings)
+  pub settings : Sized (r .settings)
   pub slots : (i : ℕ) → i < slotLimit → heldFits (r .settings) (heldAt r i) ≡ true
   pub pairs : (k x : ℕ) → k < r .settings .replicas → x < r .settings .cells → pairFits (r .settings) (pairAt r k x) ≡ true
   pub parties : (i : ℕ) → i < r .settings .clients → workFits (r .settings) (partyAt r i .work) ≡ true

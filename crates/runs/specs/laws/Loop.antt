@@ -29,9 +29,12 @@ use Rattle.rack.specs.Places.{empty, idle, heldIn, freeAt, roomOf, sentOf}
 use Rattle.rack.specs.Sound.{soundOf, owedIn}
 use Rattle.rack.specs.laws.Owed.{owed-in}
 use Rattle.method.specs.About.{clientOf}
-use Rattle.rack.specs.Run.{inRack, slotOf, placeIn, freed, checked, decided, addressed, cleared, recorded, entriesIn, appliedOf, turn, ranOf, runFrom}
+use Rattle.rack.specs.Run.{addressed, cleared, recorded, entriesIn, appliedOf, turn, ranOf, runFrom}
+use Rattle.rack.specs.Refusals.{freed, checked, decided}
+use Rattle.rack.specs.Looking.{inRack, slotOf, placeIn}
 use Rattle.rack.specs.laws.SoundLaws.{sound-of, bits-enough}
-use Rattle.rack.specs.laws.Decided.{lookedClient, lookedPlace, Looked, looked, Decided, decided-fits}
+use Rattle.rack.specs.laws.Decided.{Looked, looked, Decided, decided-fits}
+use Rattle.rack.specs.Looking.{lookedClient, lookedPlace}
 use Rattle.runs.specs.laws.Stays.{stays, sound-stays}
 use Rattle.runs.specs.laws.Steps.{nthEvent, tried, used-up, ended}
 use Rattle.runs.specs.laws.Sending.{room-most, slotAfter, cleared-is, cleared-room, Sending, sending-start, sending-end, sent-long, sent-room}

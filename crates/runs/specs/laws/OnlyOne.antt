@@ -14,7 +14,9 @@ use Rattle.method.specs.Plan.{started, startIn, startOf, ofSlot, planOf}
 use Rattle.rack.specs.Places.{freeAt, roomOf, sentOf}
 use Rattle.rack.specs.Sound.{settingsFit, owes, owedBy, owedIn, owed}
 use Rattle.method.specs.About.{clientIn, clientOf}
-use Rattle.rack.specs.Run.{freshRack, byte, eventOf, inRack, slotOf, placeIn, noted, freed, checked, decided, addressed, cleared, recorded, entriesIn, appliedOf, turn, ranOf}
+use Rattle.rack.specs.Run.{freshRack, byte, eventOf, addressed, cleared, recorded, entriesIn, appliedOf, turn, ranOf}
+use Rattle.rack.specs.Refusals.{noted, freed, checked, decided}
+use Rattle.rack.specs.Looking.{inRack, slotOf, placeIn}
 use Rattle.rack.specs.Run.{runFrom, runOf}
 use Rattle.rack.specs.laws.Fresh.{fresh-sound}
 use Rattle.runs.specs.laws.Steps.{run-steps, sound-from}

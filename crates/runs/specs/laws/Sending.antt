@@ -16,9 +16,11 @@ use Rattle.slots.specs.laws.Finding.{tied-same}
 use Rattle.slots.specs.laws.UpTo.{freeBelow, upto-next, upto-all}
 use Rattle.method.specs.declared.Message.{Message}
 use Rattle.rack.specs.declared.Slot.{Slot}
-use Rattle.rack.specs.Places.{empty, full, heldIn, isEmpty, freeAt, roomOf, sentOf}
+use Rattle.rack.specs.Places.{empty, full, heldIn, freeAt, roomOf, sentOf}
+use Rattle.method.specs.Refusals.{isEmpty}
 use Rattle.method.specs.Plan.{messageOf}
-use Rattle.rack.specs.Run.{freed, cleared, addressed}
+use Rattle.rack.specs.Run.{cleared, addressed}
+use Rattle.rack.specs.Refusals.{freed}
 use Rattle.quorum.specs.Sets.{setBits, membersOf, lowestOf, restOf}
 use Rattle.quorum.specs.laws.LowestMember.{members-next, members-none, rest-less, ones-rest}
 

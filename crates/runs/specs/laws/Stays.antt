@@ -23,10 +23,13 @@ use Rattle.method.specs.declared.Decision.the-variants.{Go}
 use Rattle.method.specs.Plan.{messageOf}
 use Rattle.rack.specs.Places.{empty, full, idle, pairPlace, heldIn, freeAt, sentOf}
 use Rattle.rack.specs.Sound.{pairFits, messageFits, heldFits, workFits, owes, owedBy, owed, soundOf, owedIn}
-use Rattle.rack.specs.Run.{slotOf, decided, addressed, cleared, entriesIn, appliedOf}
+use Rattle.rack.specs.Run.{addressed, cleared, entriesIn, appliedOf}
+use Rattle.rack.specs.Refusals.{decided}
+use Rattle.rack.specs.Looking.{slotOf}
 use Rattle.rack.specs.laws.SoundLaws.{Sound, sound-of, of-sound}
 use Rattle.rack.specs.laws.Owed.{owed-in, owed-set}
-use Rattle.rack.specs.laws.Decided.{lookedClient, lookedPlace, Decided, decided-fits}
+use Rattle.rack.specs.laws.Decided.{Decided, decided-fits}
+use Rattle.rack.specs.Looking.{lookedClient, lookedPlace}
 
 -- ---- stores
 

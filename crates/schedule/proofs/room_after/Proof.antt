@@ -3,7 +3,7 @@ use borrow.Author.Needs.{needs}
 use mathlib.Core.Path.{_≡_, ap}
 use mathlib.Core.Bool.{Bool, true, false}
 use native.Mathlib.Omega.{arith}
-use Rattle.rack.specs.Run.{freed}
+use Rattle.rack.specs.Refusals.{freed}
 use Rattle.schedule.proofs.room_after.Statement.{statement}
 use Rattle.schedule.proofs.room_after.Tie as tie
 

@@ -11,9 +11,6 @@ enum-told c = search needs
 enum-told-2 : tie.Need-enum-told-2
 enum-told-2 c = search needs
 
-enum-told-3 : tie.Need-enum-told-3
-enum-told-3 c = search needs
-
 returns : tie.Need-returns
 unfolding owes
 returns c = (rw (c .enum-told .given .1), omega arith)
@@ -22,9 +19,5 @@ returns-2 : tie.Need-returns-2
 unfolding owes
 returns-2 c = (rw (c .enum-told2 .given .1), omega arith)
 
-returns-3 : tie.Need-returns-3
-unfolding owes
-returns-3 c = (rw (c .enum-told3 .given .1), omega arith)
-
 pub owes-spec : {M : Type 1} → statement M
-owes-spec = tie.close (tie.spec enum-told enum-told-2 enum-told-3 returns returns-2 returns-3)
+owes-spec = tie.close (tie.spec enum-told enum-told-2 returns returns-2)
