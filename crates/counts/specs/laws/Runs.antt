@@ -17,7 +17,7 @@ use Rattle.rack.specs.Sound.{settingsFit, soundOf}
 use Rattle.rack.specs.Run.{eventOf, appliedOf, turn, ranOf, runFrom, runOf, freshRack, madeOf}
 use Rattle.rack.specs.Refusals.{decided}
 use Rattle.rack.specs.Counts.{counted, countOver}
-use Rattle.runs.specs.laws.Steps.{sound-from, run-steps}
+use Rattle.runs.specs.laws.Steps.{run-from, run-steps}
 use Rattle.counts.specs.Counts.{totalOf}
 use Rattle.method.specs.laws.Tests.{whichever}
 
@@ -78,7 +78,7 @@ module _ (I : Rack → Type 0) (v : Rack → ℕ) (less more : Event → Plan �
   unfolding totalOf
   run-adds r allowance ws s i =
       let q : Ran = runOf r allowance ws in
-      let e : runFrom 0 r (q .done) ws .rack ≡ q .rack = ap (λ (x : Ran). x .rack) (sym (sound-from r (q .done) ws s) ∙ run-steps r allowance ws .same) in
+      let e : runFrom 0 r (q .done) ws .rack ≡ q .rack = ap (λ (x : Ran). x .rack) (sym (run-from r (q .done) ws) ∙ run-steps r allowance ws .same) in
       subst (λ (x : Rack). I x × (v x + countOver less (q .done) r ws ≡ v r + countOver more (q .done) r ws)) e (from-adds 0 r (q .done) ws i)
 
 -- ---- an unsound rack: nothing is done
