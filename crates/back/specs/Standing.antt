@@ -22,7 +22,11 @@ use Rattle.method.specs.declared.InSlot.the-variants.{Empty, Full}
 use Rattle.method.specs.declared.Goal.{Goal}
 use Rattle.method.specs.declared.Goal.the-variants.{Read, Write}
 use Rattle.method.specs.declared.Work.{Work}
-use Rattle.method.specs.declared.Work.the-variants.{Idle, Asking, Keeping}
+use Rattle.method.specs.declared.Work.the-variants.{Idle, Open}
+use Rattle.method.specs.declared.Holding.{Holding}
+use Rattle.method.specs.declared.Holding.the-variants.{NoPair, Holds}
+use Rattle.method.specs.declared.Phase.{Phase}
+use Rattle.method.specs.declared.Phase.the-variants.{Asking, Keeping}
 use Rattle.rack.specs.declared.Settings.{Settings}
 use Rattle.rack.specs.declared.Rack.{Rack}
 use Rattle.stamps.specs.Stamp.{freshPair}
@@ -51,8 +55,7 @@ openFor (Write v) = 2
 -- nothing is 0
 abbrev pub openIn : Work → ℕ
 openIn Idle = 0
-openIn (Asking cell goal set held) = openFor goal
-openIn (Keeping cell goal set held) = openFor goal
+openIn (Open o) = openFor (o .goal)
 
 -- ---- entries
 
@@ -91,11 +94,20 @@ abbrev pub GoalSmall : Goal → Type 0
 GoalSmall Read = Unit {0}
 GoalSmall (Write v) = SFits w32 v
 
--- the values of an open operation are of 32 bits: the one held and, while it asks, the one to be written
+-- the value that is held, if any, is one of 32 bits
+abbrev pub HoldingSmall : Holding → Type 0
+HoldingSmall NoPair = Unit {0}
+HoldingSmall (Holds p) = PairSmall p
+
+-- the value held in a phase is one of 32 bits
+abbrev pub PhaseSmall : Phase → Type 0
+PhaseSmall (Asking held) = HoldingSmall held
+PhaseSmall (Keeping held) = PairSmall held
+
+-- the values of an open operation are of 32 bits: the one to be written, and the one held
 abbrev pub WorkSmall : Work → Type 0
 WorkSmall Idle = Unit {0}
-WorkSmall (Asking cell goal set held) = GoalSmall goal × PairSmall held
-WorkSmall (Keeping cell goal set held) = PairSmall held
+WorkSmall (Open o) = GoalSmall (o .goal) × PhaseSmall (o .phase)
 
 -- every value that a read could be told, wherever it now is
 pub record FitsWords (r : Rack) : Type 0 where

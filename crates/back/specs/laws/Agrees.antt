@@ -35,15 +35,15 @@ use Rattle.method.specs.declared.Decision.{Decision}
 use Rattle.method.specs.declared.Decision.the-variants.{No, Go}
 use Rattle.rack.specs.declared.Made.{Made}
 use Rattle.stamps.specs.Stamp.{freshPair}
-use Rattle.method.specs.Plan.{messageOf, planOf}
-use Rattle.rack.specs.Places.{slotLimit, empty, full, idle, heldIn, freeAt, roomOf, sentOf, recordOf}
-use Rattle.rack.specs.Sound.{settingsFit, owed, soundOf}
+use Rattle.method.specs.Plan.{messageOf}
+use Rattle.rack.specs.Places.{slotLimit, empty, full, idle, heldIn, freeAt, sentOf, recordOf}
+use Rattle.rack.specs.Sound.{settingsFit, soundOf}
 use Rattle.rack.specs.Run.{freshRack, madeOf, byte, eventOf, addressed, cleared, recorded, entriesIn, appliedOf, turn, runFrom, runOf}
-use Rattle.rack.specs.Refusals.{decided, checked}
+use Rattle.rack.specs.Refusals.{decided}
 use Rattle.rack.specs.Looking.{slotOf}
 use Rattle.rack.specs.laws.SoundLaws.{Sized, Sound, sound-of}
-use Rattle.rack.specs.laws.Decided.{Decided, decided-fits, checked-go}
-use Rattle.rack.specs.Looking.{lookedHeld, lookedClient, lookedParty, lookedPlace, lookedPair, sight}
+use Rattle.rack.specs.laws.Decided.{Decided, decided-fits}
+use Rattle.rack.specs.Looking.{lookedHeld, lookedClient, lookedParty, lookedPlace, sight}
 use Rattle.rack.specs.laws.Fresh.{made-sound}
 use Rattle.slots.specs.Free.{firstFree}
 use Rattle.quorum.specs.Sets.{membersOf}
@@ -51,7 +51,7 @@ use Rattle.runs.specs.laws.Stays.{set-either, stays, sound-stays}
 use Rattle.runs.specs.laws.Steps.{run-from}
 use Rattle.back.specs.Standing.{openIn, Within, AllWithin, PairSmall, BodySmall, HeldSmall, WorkSmall, FitsWords, Agrees, EventSmall}
 use Rattle.back.specs.laws.Lines.{added, applied-adds, count-long}
-use Rattle.back.specs.laws.Plans.{whose, needs, leaves, Enters, Noted, Keeps, OutcomeKeeps, plan-keeps}
+use Rattle.back.specs.laws.Plans.{whose, needs, leaves, Enters, Noted, Keeps, plan-keeps}
 
 -- ---- one entry more
 
@@ -157,23 +157,13 @@ small-stays r e p k before s h =
 
 -- ---- an event that is done
 
--- the plan that it went by is the one that is planned for it
-pub decided-plan : (r : Rack) (e : Event) (p : Plan) → soundOf r ≡ true → decided r e ≡ Go p → planOf (sight r e) (lookedHeld r e) e ≡ Go p
-unfolding decided
-decided-plan r e p h g =
-    let o : Decision = planOf (sight r e) (lookedHeld r e) e in
-    let c : checked o (r .count + owed r) (roomOf (r .wire)) ≡ Go p =
-    sym (ap (λ (t : Bool). cond t (checked o (r .count + owed r) (roomOf (r .wire))) (No 3)) (decided-fits r e p h g .inside)) ∙ g in
-    checked-go o (r .count + owed r) (roomOf (r .wire)) p (sound-of r h .entries) c .same
-
 -- it keeps to the record
 decided-keeps : (r : Rack) (e : Event) (p : Plan) → soundOf r ≡ true → FitsWords r → EventSmall e → decided r e ≡ Go p
     → Keeps (r .settings) (lookedClient r e) (openIn (lookedParty r e .work)) p
 decided-keeps r e p h s v g =
     let d : Decided r e p = decided-fits r e p h g in
-    subst (OutcomeKeeps (r .settings) (lookedClient r e) (openIn (lookedParty r e .work))) (decided-plan r e p h g)
-    (plan-keeps (r .settings) (r .power) (lookedParty r e) (lookedPair r e) (s .works (lookedClient r e)) (s .pairs (lookedPlace r e)) (lookedHeld r e) (d .looked .held)
-    (s .wire (slotOf e)) e (d .inside) v)
+    plan-keeps (r .settings) (sight r e) (s .works (lookedClient r e)) (s .pairs (lookedPlace r e)) (lookedHeld r e) (d .looked .held) (s .wire (slotOf e)) e (d .inside) v p
+    (d .does)
 
 -- each client is at what the record leaves it open
 stand-next : (z : Settings) (es fs : List Entry) (k : ℕ) (ps : List Party) (q : Party) → Goes z es fs k (openIn (q .work)) → k < length ps

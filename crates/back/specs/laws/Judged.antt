@@ -8,7 +8,6 @@ use lib.Dec.{eqb}
 use lib.IntN.{ℤ}
 use Rattle.number.specs.Value.{alternatingOf}
 use Rattle.record.specs.declared.Client.{Client}
-use Rattle.record.specs.declared.Cell.{Cell}
 use Rattle.record.specs.declared.Entry.{Entry}
 use Rattle.record.specs.declared.Entry.the-variants.{ReadAsked, WriteAsked, Told, Done}
 use Rattle.record.specs.Record.{Held, entries, fault, bytesOf}
@@ -17,17 +16,12 @@ use Rattle.verdict.specs.declared.Verdict.{Verdict}
 use Rattle.verdict.specs.declared.Verdict.the-variants.{Lawful as saysLawful, Refused as saysRefused}
 use Rattle.verdict.specs.Verdict.{asksFor, askedAmong, repeats, distinctFrom, distinct, takenFor, Judges}
 use Rattle.verdict.specs.laws.OnlyOne.{lawful-exactly}
-use Rattle.quorum.specs.Sets.{hasReplica, withReplica, asksEnough, keepsEnough}
 use Rattle.stamps.specs.declared.Pair.{Pair}
-use Rattle.method.specs.declared.Body.{Body}
-use Rattle.method.specs.declared.Body.the-variants.{Ask, Tell, Keep, Kept}
 use Rattle.method.specs.declared.Message.{Message}
 use Rattle.method.specs.declared.InSlot.{InSlot as Slotted}
 use Rattle.method.specs.declared.InSlot.the-variants.{Empty, Full}
 use Rattle.method.specs.declared.Goal.{Goal}
 use Rattle.method.specs.declared.Goal.the-variants.{Read, Write}
-use Rattle.method.specs.declared.Work.{Work}
-use Rattle.method.specs.declared.Work.the-variants.{Idle, Asking, Keeping}
 use Rattle.rack.specs.declared.Rack.{Rack}
 use Rattle.method.specs.declared.Sight.{Sight}
 use Rattle.method.specs.declared.Event.{Event}
@@ -37,14 +31,15 @@ use Rattle.method.specs.declared.Note.the-variants.{Nothing, Asked, Ended}
 use Rattle.method.specs.declared.Plan.{Plan}
 use Rattle.method.specs.declared.Decision.{Decision}
 use Rattle.method.specs.declared.Decision.the-variants.{No, Go}
-use Rattle.method.specs.Plan.{started, startIn, startOf, askOf, keepOf, current, keepsOf, phaseEnds, tellCounts, tellIn, tellOf, keptCounts, keptIn, keptOf}
-use Rattle.method.specs.Holding.{holds, lastEntry}
-use Rattle.method.specs.Plan.{deliverIn, deliverOf, copyOf, resendIn, resendOf, stopOf, powered, offOf, onOf, ofSlot, planOf}
+use Rattle.method.specs.Holding.{lastEntry}
+use Rattle.method.specs.Method.{Delivers, Does}
+use Rattle.method.specs.Method.Delivers.{tells, takes, hears, chooses, counts, ends, spends}
 use Rattle.rack.specs.Places.{recordOf}
 use Rattle.rack.specs.Sound.{soundOf}
 use Rattle.rack.specs.Run.{madeOf, eventOf, appliedOf, turn, runFrom, runOf}
 use Rattle.rack.specs.Refusals.{decided}
 use Rattle.rack.specs.Looking.{lookedHeld, sight}
+use Rattle.rack.specs.laws.Decided.{decided-does}
 use Rattle.rack.specs.laws.Fresh.{made-sound}
 use Rattle.runs.specs.laws.Stays.{sound-stays}
 use Rattle.runs.specs.laws.Steps.{run-from}
@@ -52,9 +47,8 @@ use Rattle.promise.specs.laws.Promise.{promise}
 use Rattle.back.specs.Standing.{Agrees}
 use Rattle.back.specs.Writes.{writesBy, writesOf, Differ}
 use Rattle.back.specs.laws.Lines.{added}
-use Rattle.back.specs.laws.Agrees.{decided-plan, record-next, agree-stays, event-small, made-agrees, made-empty, run-legal}
+use Rattle.back.specs.laws.Agrees.{record-next, agree-stays, event-small, made-agrees, made-empty, run-legal}
 use Rattle.back.specs.laws.Back.{taken-legal}
-use Rattle.method.specs.laws.Tests.{whichever}
 
 -- ---- entries without a repeat
 
@@ -158,76 +152,37 @@ writesIn Nothing = []
 writesIn (Asked e) = ifWrite e
 writesIn (Ended e) = ifWrite e
 
--- a plan whose note adds just the writes that are given
-abbrev OutcomeAdds : List Entry → Decision → Type 0
-OutcomeAdds ws (No k) = Unit {0}
-OutcomeAdds ws (Go p) = writesIn (p .note) ≡ ws
+last-adds : (goal : Goal) (client : Client) (held : Pair) → ifWrite (lastEntry goal client held) ≡ []
+unfolding lastEntry
+last-adds Read client held = refl
+last-adds (Write v) client held = refl
 
-module _ (s : Sight) where
-  start-adds : (client : Client) (cell : Cell) (goal : Goal) (entry : Entry) → OutcomeAdds (ifWrite entry) (startOf s client cell goal entry)
-  unfolding startOf startIn started
-  start-adds client cell goal entry = whichever (OutcomeAdds (ifWrite entry)) (s .party .stopped) _ _ tt (go (s .party .work))
-    where
-      go : (w : Work) → OutcomeAdds (ifWrite entry) (startIn w s (s .party .op) client cell goal entry)
-      go Idle = whichever (OutcomeAdds (ifWrite entry)) (eqb (s .party .op) 65535) _ _ tt refl
-      go (Asking y g set q) = tt
-      go (Keeping y g set q) = tt
+-- a delivery asks for no write
+deliver-adds : (s : Sight) (m : Message) (p : Plan) → Delivers s m p → writesIn (p .note) ≡ []
+deliver-adds s m p (tells x) = rw (x .plan)
+deliver-adds s m p (takes x) = rw (x .plan)
+deliver-adds s m p (hears x) = rw (x .plan)
+deliver-adds s m p (chooses x) = rw (x .plan)
+deliver-adds s m p (counts x) = rw (x .plan)
+deliver-adds s m p (ends x) = rw (x .plan) (last-adds (x .counted .operation .goal) (m .client) (x .counted .held))
+deliver-adds s m p (spends x) = rw x
 
-  phase-adds : (m : Message) (goal : Goal) (cell : Cell) (held : Pair) → OutcomeAdds [] (phaseEnds goal s m cell held)
-  unfolding phaseEnds keepsOf
-  phase-adds m Read cell held = refl
-  phase-adds m (Write v) cell held = whichever (OutcomeAdds []) (eqb (held .stamp .number) 4294967295) _ _ tt refl
-
-  tell-adds : (m : Message) (q : Pair) (w : Work) → OutcomeAdds [] (tellIn w s m q)
-  unfolding tellIn tellCounts
-  tell-adds m q Idle = refl
-  tell-adds m q (Asking cell goal set held) =
-      whichever (OutcomeAdds []) (hasReplica set (m .replica .0)) _ _ refl
-      (whichever (OutcomeAdds []) (asksEnough (s .replicas) (withReplica set (m .replica .0))) _ _ (phase-adds m goal cell (holds set held q)) refl)
-  tell-adds m q (Keeping cell goal set held) = refl
-
-  last-adds : (goal : Goal) (client : Client) (held : Pair) → ifWrite (lastEntry goal client held) ≡ []
-  unfolding lastEntry
-  last-adds Read client held = refl
-  last-adds (Write v) client held = refl
-
-  kept-adds : (m : Message) (w : Work) → OutcomeAdds [] (keptIn w s m)
-  unfolding keptIn keptCounts
-  kept-adds m Idle = refl
-  kept-adds m (Asking cell goal set held) = refl
-  kept-adds m (Keeping cell goal set held) =
-      whichever (OutcomeAdds []) (hasReplica set (m .replica .0)) _ _ refl
-      (whichever (OutcomeAdds []) (keepsEnough (s .replicas) (withReplica set (m .replica .0))) _ _ (last-adds goal (m .client) held) refl)
-
-  deliver-adds : (m : Message) (b : Body) → OutcomeAdds [] (deliverIn b s m)
-  unfolding deliverIn askOf keepOf tellOf keptOf
-  deliver-adds m Ask = whichever (OutcomeAdds []) (hasReplica (s .power) (m .replica .0)) _ _ refl tt
-  deliver-adds m (Tell q) = whichever (OutcomeAdds []) (current (s .party) m) _ _ (tell-adds m q (s .party .work)) refl
-  deliver-adds m (Keep q) = whichever (OutcomeAdds []) (hasReplica (s .power) (m .replica .0)) _ _ refl tt
-  deliver-adds m Kept = whichever (OutcomeAdds []) (current (s .party) m) _ _ (kept-adds m (s .party .work)) refl
-
-  resend-adds : (client : Client) (w : Work) → OutcomeAdds [] (resendIn w s client)
-  unfolding resendIn
-  resend-adds client Idle = tt
-  resend-adds client (Asking cell goal set held) = refl
-  resend-adds client (Keeping cell goal set held) = refl
-
-  -- a start write adds its write, and nothing else adds one
-  plan-adds : (held : Slotted) (e : Event) → OutcomeAdds (writesBy e) (planOf s held e)
-  unfolding planOf ofSlot writesBy deliverOf copyOf resendOf stopOf offOf onOf powered
-  plan-adds held (StartRead client cell) = start-adds client cell Read (ReadAsked client cell)
-  plan-adds held (StartWrite client cell v) = start-adds client cell (Write v) (WriteAsked client cell v)
-  plan-adds Empty (Deliver slot) = tt
-  plan-adds (Full m) (Deliver slot) = deliver-adds m (m .body)
-  plan-adds Empty (Lose slot) = tt
-  plan-adds (Full m) (Lose slot) = refl
-  plan-adds Empty (Copy slot) = tt
-  plan-adds (Full m) (Copy slot) = refl
-  plan-adds held (Resend client) = whichever (OutcomeAdds []) (s .party .stopped) _ _ tt (resend-adds client (s .party .work))
-  plan-adds held (Stop client) = whichever (OutcomeAdds []) (s .party .stopped) _ _ tt refl
-  plan-adds held (Off replica) = whichever (OutcomeAdds []) (hasReplica (s .power) (replica .0)) _ _ refl tt
-  plan-adds held (On replica) = whichever (OutcomeAdds []) (hasReplica (s .power) (replica .0)) _ _ tt refl
-  plan-adds held Unknown = tt
+-- a start write adds its write, and nothing else adds one
+plan-adds : (s : Sight) (held : Slotted) (e : Event) (p : Plan) → Does s held e p → writesIn (p .note) ≡ writesBy e
+unfolding writesBy
+plan-adds s held (StartRead client cell) p x = rw (x .plan)
+plan-adds s held (StartWrite client cell v) p x = rw (x .plan)
+plan-adds s Empty (Deliver slot) p x = absurd x
+plan-adds s (Full m) (Deliver slot) p x = deliver-adds s m p x
+plan-adds s Empty (Lose slot) p x = absurd x
+plan-adds s (Full m) (Lose slot) p x = rw x
+plan-adds s Empty (Copy slot) p x = absurd x
+plan-adds s (Full m) (Copy slot) p x = rw x
+plan-adds s held (Resend client) p x = rw (x .plan)
+plan-adds s held (Stop client) p x = rw (x .plan)
+plan-adds s held (Off replica) p x = rw (x .plan)
+plan-adds s held (On replica) p x = rw (x .plan)
+plan-adds s held Unknown p x = absurd x
 
 -- ---- a run
 
@@ -239,7 +194,7 @@ ahead-note es rest (Ended e) a = ahead-next es rest e a
 ahead-stays : (r : Rack) (e : Event) (p : Plan) (rest : List Entry) → soundOf r ≡ true → Agrees r → decided r e ≡ Go p → Ahead (recordOf r) (writesBy e ++ rest)
     → Ahead (recordOf (appliedOf r e p)) rest
 ahead-stays r e p rest h a g w =
-    let same : writesIn (p .note) ≡ writesBy e = subst (OutcomeAdds (writesBy e)) (decided-plan r e p h g) (plan-adds (sight r e) (lookedHeld r e) e) in
+    let same : writesIn (p .note) ≡ writesBy e = plan-adds (sight r e) (lookedHeld r e) e p (decided-does r e p g) in
     rw (record-next r e p h a g) (ahead-note (recordOf r) rest (p .note) (rw same w))
 
 from-clear : (done : ℕ) (r : Rack) (left : ℕ) (ws : List ℕ) → Words ws → soundOf r ≡ true → Agrees r → Ahead (recordOf r) (writesOf ws)

@@ -1,17 +1,17 @@
 -- What each plan does to the record and to the client: an entry is added only where an operation starts or ends, and it is the one that the client's
 -- work calls for; and every value that a plan leaves is one of 32 bits.
 use Prim.Native.Nat.{ℕ, _<_}
-use mathlib.Core.Path.{_≡_, refl}
+use mathlib.Core.Path.{_≡_, refl, ap, sym, _∙_, subst}
 use mathlib.Core.Bool.{Bool, true, false, cond}
 use native.Mathlib.Omega.{arith}
-use lib.Dec.{ltb, eqb}
+use lib.Dec.{ltb}
 use borrow.Author.Tests.{ltb-true}
 use Rattle.record.specs.declared.Client.{Client}
 use Rattle.record.specs.declared.Cell.{Cell}
 use Rattle.record.specs.declared.Entry.{Entry}
 use Rattle.record.specs.declared.Entry.the-variants.{ReadAsked, WriteAsked, Told, Done}
-use Rattle.quorum.specs.Sets.{hasReplica, withReplica, asksEnough, keepsEnough}
 use Rattle.stamps.specs.declared.Pair.{Pair}
+use Rattle.stamps.specs.Stamp.{stampLess, raised}
 use Rattle.method.specs.declared.Body.{Body}
 use Rattle.method.specs.declared.Body.the-variants.{Ask, Tell, Keep, Kept}
 use Rattle.method.specs.declared.Message.{Message}
@@ -19,28 +19,30 @@ use Rattle.method.specs.declared.InSlot.{InSlot}
 use Rattle.method.specs.declared.InSlot.the-variants.{Empty, Full}
 use Rattle.method.specs.declared.Goal.{Goal}
 use Rattle.method.specs.declared.Goal.the-variants.{Read, Write}
+use Rattle.method.specs.declared.Holding.{Holding}
+use Rattle.method.specs.declared.Holding.the-variants.{NoPair, Holds}
+use Rattle.method.specs.declared.Phase.{Phase}
+use Rattle.method.specs.declared.Phase.the-variants.{Asking, Keeping}
+use Rattle.method.specs.declared.Operation.{Operation}
 use Rattle.method.specs.declared.Work.{Work}
-use Rattle.method.specs.declared.Work.the-variants.{Idle, Asking, Keeping}
-use Rattle.method.specs.declared.Party.{Party}
-use Rattle.rack.specs.declared.Settings.{Settings}
-use Rattle.stamps.specs.Stamp.{stampLess, raised}
+use Rattle.method.specs.declared.Work.the-variants.{Idle, Open}
 use Rattle.method.specs.declared.Sight.{Sight}
 use Rattle.method.specs.declared.Event.{Event}
 use Rattle.method.specs.declared.Event.the-variants.{StartRead, StartWrite, Deliver, Lose, Copy, Resend, Stop, Off, On, Unknown}
 use Rattle.method.specs.declared.Note.{Note}
 use Rattle.method.specs.declared.Note.the-variants.{Nothing, Asked, Ended}
 use Rattle.method.specs.declared.Plan.{Plan}
-use Rattle.method.specs.declared.Decision.{Decision}
-use Rattle.method.specs.declared.Decision.the-variants.{No, Go}
-use Rattle.method.specs.Plan.{usedUp, answered, started, startIn, startOf, askOf, keepOf, current, keepsOf, written, phaseEnds, tellCounts, tellIn, tellOf}
-use Rattle.method.specs.Holding.{holds, lastEntry}
-use Rattle.method.specs.Plan.{keptCounts, keptIn, keptOf, deliverIn, deliverOf, copyOf, resendIn, resendOf, stopOf, powered, offOf, onOf, ofSlot, planOf}
-use Rattle.rack.specs.Sound.{heldFits}
+use Rattle.method.specs.Plan.{usedUp, powered, request}
+use Rattle.method.specs.Holding.{holds, firstEntry, lastEntry}
 use Rattle.method.specs.About.{clientIn, clientOf}
+use Rattle.method.specs.Method.{Chosen, Starts, Heard, heardPair, Counted, Delivers, Does}
+use Rattle.method.specs.Method.Delivers.{tells, takes, hears, chooses, counts, ends, spends}
+use Rattle.method.specs.laws.Tests.{and-left, and-right}
+use Rattle.rack.specs.declared.Settings.{Settings}
+use Rattle.rack.specs.Sound.{heldFits}
 use Rattle.rack.specs.Looking.{inRack}
-use Rattle.method.specs.laws.Tests.{and-left, and-right, whichever}
 use Rattle.rack.specs.laws.SoundLaws.{named}
-use Rattle.back.specs.Standing.{openFor, openIn, Within, PairSmall, BodySmall, HeldSmall, GoalSmall, WorkSmall, EventSmall}
+use Rattle.back.specs.Standing.{openFor, openIn, Within, PairSmall, BodySmall, HeldSmall, GoalSmall, HoldingSmall, PhaseSmall, WorkSmall, EventSmall}
 
 -- ---- one entry
 
@@ -87,11 +89,6 @@ pub record Keeps (z : Settings) (k before : ℕ) (p : Plan) : Type 0 where
   pub pair : PairSmall (p .pair)
   pub body : BodySmall (p .message .body)
 
--- what holds of an outcome: of a refusal nothing, of a plan the above
-abbrev pub OutcomeKeeps : Settings → ℕ → ℕ → Decision → Type 0
-OutcomeKeeps z k before (No n) = Unit {0}
-OutcomeKeeps z k before (Go p) = Keeps z k before p
-
 -- ---- pairs
 
 raised-small : (p q : Pair) → PairSmall p → PairSmall q → PairSmall (raised p q)
@@ -102,146 +99,122 @@ raised-small p q hp hq = go (stampLess (p .stamp) (q .stamp))
     go true = hq
     go false = hp
 
-holds-small : (set : ℕ) (held q : Pair) → PairSmall held → PairSmall q → PairSmall (holds set held q)
+holds-small : (held : Holding) (q : Pair) → HoldingSmall held → PairSmall q → PairSmall (holds held q)
 unfolding holds
-holds-small set held q h hq = go (eqb set 0)
-  where
-    go : (t : Bool) → PairSmall (cond t q (raised held q))
-    go true = hq
-    go false = raised-small held q h hq
+holds-small NoPair q h hq = hq
+holds-small (Holds p) q h hq = raised-small p q h hq
 
--- ---- an event's outcome, from a client and a pair whose values are small
+chosen-small : (goal : Goal) (client : ℕ) (held chosen : Pair) → GoalSmall goal → PairSmall held → Chosen goal client held chosen → PairSmall chosen
+chosen-small Read client held chosen hg hp k = rw k hp
+chosen-small (Write v) client held chosen hg hp k = rw (k .value) hg
 
-module _ (z : Settings) (power : ℕ) (party : Party) (pair : Pair) (work : WorkSmall (party .work)) (here : PairSmall pair) where
-  -- what the event looks at: the number of replicas, the power, the client and the pair
-  abbrev seen : Sight
-  seen = record { replicas = z .replicas; power = power; party = party; pair = pair }
+request-small : (ph : Phase) → PhaseSmall ph → BodySmall (request ph)
+request-small (Asking held) h = tt
+request-small (Keeping held) h = h
 
+-- the entry of a start is of this rack, and its client has then open what it asked for
+first-enters : (z : Settings) (goal : Goal) (client : Client) (cell : Cell) → client .0 < z .clients → cell .0 < z .cells → GoalSmall goal
+    → Enters z (client .0) 0 (firstEntry goal client cell) (openFor goal)
+first-enters z Read client cell hc hx hg = record { client = refl; within = (hc, hx); needed = refl; left = refl }
+first-enters z (Write v) client cell hc hx hg = record { client = refl; within = (hc, hx, hg); needed = refl; left = refl }
+
+-- the entry that ends an operation is the one that its goal calls for
+last-enters : (z : Settings) (goal : Goal) (client : Client) (held : Pair) (has : ℕ) → client .0 < z .clients → openFor goal ≡ has → PairSmall held
+    → Enters z (client .0) has (lastEntry goal client held) 0
+unfolding lastEntry
+last-enters z Read client held has hc o hp = record { client = refl; within = (hc, hp); needed = omega arith; left = refl }
+last-enters z (Write v) client held has hc o hp = record { client = refl; within = hc; needed = omega arith; left = refl }
+
+-- ---- an event's plan, from a client and a pair whose values are small
+
+module _ (z : Settings) (s : Sight) (work : WorkSmall (s .party .work)) (here : PairSmall (s .pair)) where
   -- what the client has open
   abbrev has : ℕ
-  has = openIn (party .work)
+  has = openIn (s .party .work)
+
+  -- the values of what is open
+  open-small : (o : Operation) → s .party .work ≡ Open o → GoalSmall (o .goal) × PhaseSmall (o .phase)
+  open-small o w = subst WorkSmall w work
 
   -- ---- start
 
-  start-keeps : (client : Client) (cell : Cell) (goal : Goal) (entry : Entry) → GoalSmall goal → Enters z (client .0) 0 entry (openFor goal)
-      → OutcomeKeeps z (client .0) has (startOf seen client cell goal entry)
-  unfolding startOf startIn started
-  start-keeps client cell goal entry hg h = whichever (OutcomeKeeps z (client .0) has) (party .stopped) _ _ tt (go (party .work))
-    where
-      go : (w : Work) → OutcomeKeeps z (client .0) (openIn w) (startIn w seen (party .op) client cell goal entry)
-      go Idle = whichever (OutcomeKeeps z (client .0) 0) (eqb (party .op) 65535) _ _ tt (record { note = h; work = (hg, record { sfits = omega arith }); pair = here; body = tt })
-      go (Asking y g set q) = tt
-      go (Keeping y g set q) = tt
+  start-keeps : (client : Client) (cell : Cell) (goal : Goal) (p : Plan) → client .0 < z .clients → cell .0 < z .cells → GoalSmall goal
+      → Starts s client cell goal p → Keeps z (client .0) has p
+  start-keeps client cell goal p hc hx hg x =
+      subst (Keeps z (client .0) has) (sym (x .plan))
+      (rw (ap openIn (x .before)) (record { note = first-enters z goal client cell hc hx hg; work = (hg, tt); pair = here; body = tt }))
 
   -- ---- a slot's message
 
   module _ (m : Message) (known : m .client .0 < z .clients) (small : BodySmall (m .body)) where
-    used-keeps : OutcomeKeeps z (m .client .0) has (usedUp seen m)
+    used-keeps : Keeps z (m .client .0) has (usedUp s m)
     used-keeps = record { note = refl; work = work; pair = here; body = small }
 
-    answered-keeps : (after : Pair) (body : Body) → PairSmall after → BodySmall body → OutcomeKeeps z (m .client .0) has (answered seen after m body)
-    answered-keeps after body hp hb = record { note = refl; work = work; pair = hp; body = hb }
+    heard-small : (x : Heard s m) → PairSmall (heardPair x)
+    heard-small x =
+        let h : PhaseSmall (Asking (x .held)) = subst PhaseSmall (x .phase) (open-small (x .operation) (x .before) .1) in
+        holds-small (x .held) (x .told) h (subst BodySmall (x .body) small)
 
-    copy-keeps : OutcomeKeeps z (m .client .0) has (copyOf seen m)
-    unfolding copyOf
-    copy-keeps = record { note = refl; work = work; pair = here; body = small }
+    counted-small : (x : Counted s m) → PairSmall (x .held)
+    counted-small x = subst PhaseSmall (x .phase) (open-small (x .operation) (x .before) .1)
 
-    moves : (cell : Cell) (goal : Goal) (held : Pair) → openFor goal ≡ has → PairSmall held → OutcomeKeeps z (m .client .0) has (keepsOf seen m cell goal held)
-    unfolding keepsOf
-    moves cell goal held o hp = record { note = o; work = hp; pair = here; body = hp }
-
-    phase-keeps : (goal : Goal) (cell : Cell) (held : Pair) → openFor goal ≡ has → GoalSmall goal → PairSmall held
-        → OutcomeKeeps z (m .client .0) has (phaseEnds goal seen m cell held)
-    unfolding phaseEnds
-    phase-keeps Read cell held o hg hp = moves cell Read held o hp
-    phase-keeps (Write v) cell held o hg hp =
-        whichever (OutcomeKeeps z (m .client .0) has) (eqb (held .stamp .number) 4294967295) _ _ tt (moves cell (Write v) (written (m .client) v held) o hg)
-
-    tell-in-keeps : (q : Pair) → PairSmall q → (w : Work) → WorkSmall w → openIn w ≡ has → OutcomeKeeps z (m .client .0) has (tellIn w seen m q)
-    unfolding tellIn tellCounts
-    tell-in-keeps q hq Idle hw o = used-keeps
-    tell-in-keeps q hq (Asking cell goal set held) hw o =
-        let next : ℕ = withReplica set (m .replica .0) in
-        let h : PairSmall (holds set held q) = holds-small set held q (hw .1) hq in
-        whichever (OutcomeKeeps z (m .client .0) has) (hasReplica set (m .replica .0)) _ _ used-keeps
-        (whichever (OutcomeKeeps z (m .client .0) has) (asksEnough (z .replicas) next) _ _ (phase-keeps goal cell (holds set held q) o (hw .0) h)
-        (record { note = o; work = (hw .0, h); pair = here; body = small }))
-    tell-in-keeps q hq (Keeping cell goal set held) hw o = used-keeps
-
-    tell-keeps : (q : Pair) → PairSmall q → OutcomeKeeps z (m .client .0) has (tellOf seen m q)
-    unfolding tellOf
-    tell-keeps q hq = whichever (OutcomeKeeps z (m .client .0) has) (current party m) _ _ (tell-in-keeps q hq (party .work) work refl) used-keeps
-
-    -- the entry that ends an operation is the one that its goal calls for
-    last-enters : (goal : Goal) (held : Pair) → openFor goal ≡ has → PairSmall held → Enters z (m .client .0) has (lastEntry goal (m .client) held) 0
-    unfolding lastEntry
-    last-enters Read held o hp = record { client = refl; within = (known, hp); needed = omega arith; left = refl }
-    last-enters (Write v) held o hp = record { client = refl; within = known; needed = omega arith; left = refl }
-
-    kept-in-keeps : (w : Work) → WorkSmall w → openIn w ≡ has → OutcomeKeeps z (m .client .0) has (keptIn w seen m)
-    unfolding keptIn keptCounts
-    kept-in-keeps Idle hw o = used-keeps
-    kept-in-keeps (Asking cell goal set held) hw o = used-keeps
-    kept-in-keeps (Keeping cell goal set held) hw o =
-        whichever (OutcomeKeeps z (m .client .0) has) (hasReplica set (m .replica .0)) _ _ used-keeps
-        (whichever (OutcomeKeeps z (m .client .0) has) (keepsEnough (z .replicas) (withReplica set (m .replica .0))) _ _
-        (record { note = last-enters goal held o hw; work = tt; pair = here; body = small })
-        (record { note = o; work = hw; pair = here; body = small }))
-
-    kept-keeps : OutcomeKeeps z (m .client .0) has (keptOf seen m)
-    unfolding keptOf
-    kept-keeps = whichever (OutcomeKeeps z (m .client .0) has) (current party m) _ _ (kept-in-keeps (party .work) work refl) used-keeps
-
-    deliver-keeps : (b : Body) → BodySmall b → OutcomeKeeps z (m .client .0) has (deliverIn b seen m)
-    unfolding deliverIn askOf keepOf
-    deliver-keeps Ask hb = whichever (OutcomeKeeps z (m .client .0) has) (hasReplica power (m .replica .0)) _ _ (answered-keeps pair (Tell pair) here here) tt
-    deliver-keeps (Tell q) hb = tell-keeps q hb
-    deliver-keeps (Keep q) hb = whichever (OutcomeKeeps z (m .client .0) has) (hasReplica power (m .replica .0)) _ _
-        (answered-keeps (raised pair q) Kept (raised-small pair q here hb) tt) tt
-    deliver-keeps Kept hb = kept-keeps
-
-  -- ---- resend, stop, power
-
-  resend-keeps : (k : ℕ) (client : Client) → OutcomeKeeps z k has (resendOf seen client)
-  unfolding resendOf resendIn
-  resend-keeps k client = whichever (OutcomeKeeps z k has) (party .stopped) _ _ tt (go (party .work) work)
-    where
-      go : (w : Work) → WorkSmall w → OutcomeKeeps z k has (resendIn w seen client)
-      go Idle hw = tt
-      go (Asking cell goal set held) hw = record { note = refl; work = work; pair = here; body = tt }
-      go (Keeping cell goal set held) hw = record { note = refl; work = work; pair = here; body = hw }
-
-  stop-keeps : (k : ℕ) → OutcomeKeeps z k has (stopOf seen)
-  unfolding stopOf
-  stop-keeps k = whichever (OutcomeKeeps z k has) (party .stopped) _ _ tt (record { note = refl; work = work; pair = here; body = tt })
-
-  powered-keeps : (k after : ℕ) → OutcomeKeeps z k has (powered seen after)
-  unfolding powered
-  powered-keeps k after = record { note = refl; work = work; pair = here; body = tt }
+    deliver-keeps : (p : Plan) → Delivers s m p → Keeps z (m .client .0) has p
+    deliver-keeps p (tells x) = subst (Keeps z (m .client .0) has) (sym (x .plan)) (record { note = refl; work = work; pair = here; body = here })
+    deliver-keeps p (takes x) =
+        subst (Keeps z (m .client .0) has) (sym (x .plan))
+        (record { note = refl; work = work; pair = raised-small (s .pair) (x .given) here (subst BodySmall (x .body) small); body = tt })
+    deliver-keeps p (hears x) =
+        let y = x .heard in
+        subst (Keeps z (m .client .0) has) (sym (x .plan))
+        (record { note = sym (ap openIn (y .before)); work = (open-small (y .operation) (y .before) .0, heard-small y); pair = here; body = small })
+    deliver-keeps p (chooses x) =
+        let y = x .heard in
+        let hg = open-small (y .operation) (y .before) .0 in
+        let hp = chosen-small (y .operation .goal) (m .client .0) (heardPair y) (x .chosen) hg (heard-small y) (x .choice) in
+        subst (Keeps z (m .client .0) has) (sym (x .plan)) (record { note = sym (ap openIn (y .before)); work = (hg, hp); pair = here; body = hp })
+    deliver-keeps p (counts x) =
+        let y = x .counted in
+        subst (Keeps z (m .client .0) has) (sym (x .plan))
+        (record { note = sym (ap openIn (y .before)); work = (open-small (y .operation) (y .before) .0, counted-small y); pair = here; body = small })
+    deliver-keeps p (ends x) =
+        let y = x .counted in
+        subst (Keeps z (m .client .0) has) (sym (x .plan))
+        (record {
+          note = last-enters z (y .operation .goal) (m .client) (y .held) has known (sym (ap openIn (y .before))) (counted-small y);
+          work = tt;
+          pair = here;
+          body = small;
+        })
+    deliver-keeps p (spends x) = subst (Keeps z (m .client .0) has) (sym x) used-keeps
 
   -- ---- every event
 
-  pub plan-keeps : (held : InSlot) → heldFits z held ≡ true → HeldSmall held → (e : Event) → inRack z e ≡ true → EventSmall e
-      → OutcomeKeeps z (clientOf e held) has (planOf seen held e)
-  unfolding planOf ofSlot inRack heldFits offOf onOf deliverOf clientOf clientIn
-  plan-keeps held hh hs (StartRead client cell) i v =
+  -- a replica is switched
+  powered-keeps : (k after : ℕ) → Keeps z k has (powered s after)
+  powered-keeps k after = record { note = refl; work = work; pair = here; body = tt }
+
+  pub plan-keeps : (held : InSlot) → heldFits z held ≡ true → HeldSmall held → (e : Event) → inRack z e ≡ true → EventSmall e → (p : Plan) → Does s held e p
+      → Keeps z (clientOf e held) has p
+  unfolding inRack heldFits clientOf clientIn
+  plan-keeps held hh hs (StartRead client cell) i v p x =
       let a : Bool = ltb (client .0) (z .clients) in
       let b : Bool = ltb (cell .0) (z .cells) in
-      start-keeps client cell Read (ReadAsked client cell) tt
-      (record { client = refl; within = (ltb-true _ _ (and-left a b i), ltb-true _ _ (and-right a b i)); needed = refl; left = refl })
-  plan-keeps held hh hs (StartWrite client cell x) i v =
+      start-keeps client cell Read p (ltb-true _ _ (and-left a b i)) (ltb-true _ _ (and-right a b i)) tt x
+  plan-keeps held hh hs (StartWrite client cell w) i v p x =
       let a : Bool = ltb (client .0) (z .clients) in
       let b : Bool = ltb (cell .0) (z .cells) in
-      start-keeps client cell (Write x) (WriteAsked client cell x) v
-      (record { client = refl; within = (ltb-true _ _ (and-left a b i), ltb-true _ _ (and-right a b i), v); needed = refl; left = refl })
-  plan-keeps Empty hh hs (Deliver slot) i v = tt
-  plan-keeps (Full m) hh hs (Deliver slot) i v = deliver-keeps m (named z m hh .client) hs (m .body) hs
-  plan-keeps Empty hh hs (Lose slot) i v = tt
-  plan-keeps (Full m) hh hs (Lose slot) i v = used-keeps m (named z m hh .client) hs
-  plan-keeps Empty hh hs (Copy slot) i v = tt
-  plan-keeps (Full m) hh hs (Copy slot) i v = copy-keeps m (named z m hh .client) hs
-  plan-keeps held hh hs (Resend client) i v = resend-keeps (client .0) client
-  plan-keeps held hh hs (Stop client) i v = stop-keeps (client .0)
-  plan-keeps held hh hs (Off replica) i v = whichever (OutcomeKeeps z 0 has) (hasReplica power (replica .0)) _ _ (powered-keeps 0 _) tt
-  plan-keeps held hh hs (On replica) i v = whichever (OutcomeKeeps z 0 has) (hasReplica power (replica .0)) _ _ tt (powered-keeps 0 _)
-  plan-keeps held hh hs Unknown i v = tt
+      start-keeps client cell (Write w) p (ltb-true _ _ (and-left a b i)) (ltb-true _ _ (and-right a b i)) v x
+  plan-keeps Empty hh hs (Deliver slot) i v p x = absurd x
+  plan-keeps (Full m) hh hs (Deliver slot) i v p x = deliver-keeps m (named z m hh .client) hs p x
+  plan-keeps Empty hh hs (Lose slot) i v p x = absurd x
+  plan-keeps (Full m) hh hs (Lose slot) i v p x = subst (Keeps z (m .client .0) has) (sym x) (used-keeps m (named z m hh .client) hs)
+  plan-keeps Empty hh hs (Copy slot) i v p x = absurd x
+  plan-keeps (Full m) hh hs (Copy slot) i v p x = subst (Keeps z (m .client .0) has) (sym x) (record { note = refl; work = work; pair = here; body = hs })
+  plan-keeps held hh hs (Resend client) i v p x =
+      subst (Keeps z (client .0) has) (sym (x .plan))
+      (record { note = refl; work = work; pair = here; body = request-small (x .operation .phase) (open-small (x .operation) (x .before) .1) })
+  plan-keeps held hh hs (Stop client) i v p x =
+      subst (Keeps z (client .0) has) (sym (x .plan)) (record { note = refl; work = work; pair = here; body = tt })
+  plan-keeps held hh hs (Off replica) i v p x = subst (Keeps z 0 has) (sym (x .plan)) (powered-keeps 0 _)
+  plan-keeps held hh hs (On replica) i v p x = subst (Keeps z 0 has) (sym (x .plan)) (powered-keeps 0 _)
+  plan-keeps held hh hs Unknown i v p x = absurd x

@@ -222,8 +222,8 @@ element-copy-out-old c = (there _ _ _ _ _ _ _
 slot-after-requires : tie.Need-slot-after-requires Inv-loop2 μ-loop2 Inv-loop μ-loop
 slot-after-requires c κs = search needs
 
-mul-t55 : tie.Need-mul-t55 Inv-loop2 μ-loop2 Inv-loop μ-loop
-mul-t55 c = record {
+mul-t56 : tie.Need-mul-t56 Inv-loop2 μ-loop2 Inv-loop μ-loop
+mul-t56 c = record {
   fits = omega (
     arith,
     (there _ _ _ _ _ _ _ (c .before .before .before .before .before .before .before .before .before .before .before .before .before .before .before .before .before .before
@@ -284,8 +284,8 @@ rest-requires c κs = tt
 take-requires : tie.Need-take-requires Inv-loop2 μ-loop2 Inv-loop μ-loop
 take-requires c κs = search needs
 
-mul-t71 : tie.Need-mul-t71 Inv-loop2 μ-loop2 Inv-loop μ-loop
-mul-t71 c = record {
+mul-t72 : tie.Need-mul-t72 Inv-loop2 μ-loop2 Inv-loop μ-loop
+mul-t72 c = record {
   fits = omega (
     arith,
     sending-place _ _ _ _ _ _ _ ((c .before .before .before .before .before .before .loop2 .inv) .send) (c .before .before .before .before .before .loop2-test .taken) _ _
@@ -379,8 +379,8 @@ loop-again c = (
 enum-known-note : tie.Need-enum-known-note Inv-loop2 μ-loop2 Inv-loop μ-loop
 enum-known-note c = search needs
 
-mul-t75 : tie.Need-mul-t75 Inv-loop2 μ-loop2 Inv-loop μ-loop
-mul-t75 c = record {
+mul-t76 : tie.Need-mul-t76 Inv-loop2 μ-loop2 Inv-loop μ-loop
+mul-t76 c = record {
   fits = omega (
     arith,
     entry-place _ _ _ _ _ _ (c .before .before .before .before .loop2 .inv)
@@ -522,8 +522,8 @@ loop-again-2 c = (
 enum-known-note-2 : tie.Need-enum-known-note-2 Inv-loop2 μ-loop2 Inv-loop μ-loop
 enum-known-note-2 c = search needs
 
-mul-t79 : tie.Need-mul-t79 Inv-loop2 μ-loop2 Inv-loop μ-loop
-mul-t79 c = record {
+mul-t80 : tie.Need-mul-t80 Inv-loop2 μ-loop2 Inv-loop μ-loop
+mul-t80 c = record {
   fits = omega (
     arith,
     entry-place _ _ _ _ _ _ (c .before .before .before .before .loop2 .inv)
@@ -706,7 +706,7 @@ go-on-spec =
     mul-old
     element-copy-out-old
     slot-after-requires
-    mul-t55
+    mul-t56
     element-set-from-r
     mark-requires
     loop2-holds
@@ -714,7 +714,7 @@ go-on-spec =
     message-to-requires
     rest-requires
     take-requires
-    mul-t71
+    mul-t72
     element-set-from-r-2
     loop2-less
     loop2-again
@@ -723,13 +723,13 @@ go-on-spec =
     loop-less
     loop-again
     enum-known-note
-    mul-t75
+    mul-t76
     element-set-from-r-3
     add-r
     loop-less-2
     loop-again-2
     enum-known-note-2
-    mul-t79
+    mul-t80
     element-set-from-r-4
     add-r-2
     loop-less-3
