@@ -28,7 +28,8 @@ replica-fits-requires c κs = search needs
 
 returns : tie.Need-returns Inv-loop μ-loop
 unfolding pairsFit
-returns c = sym (all-fail _ (c .before .before .before .before .loop .k) _ (c .before .before .before .loop-test .taken) (sym (c .before .replica-fits .ensures) ∙ not-true _ (c .if1 .taken)))
+returns c = sym (all-fail _ (c .before .before .before .before .loop .k) _ (c .before .before .before .loop-test .taken) (sym (c .before .replica-fits .ensures)
+    ∙ not-true _ (c .if1 .taken)))
 
 add-k : tie.Need-add-k Inv-loop μ-loop
 add-k c = search needs
