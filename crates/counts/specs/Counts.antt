@@ -12,7 +12,9 @@ use Rattle.method.specs.declared.Body.the-variants.{Ask, Tell, Keep, Kept}
 use Rattle.method.specs.declared.Message.{Message}
 use Rattle.rack.specs.declared.Slot.{Slot}
 use Rattle.method.specs.declared.Work.{Work}
-use Rattle.method.specs.declared.Work.the-variants.{Idle, Asking, Keeping}
+use Rattle.method.specs.declared.Work.the-variants.{Idle, Open}
+use Rattle.method.specs.declared.Phase.{Phase}
+use Rattle.method.specs.declared.Phase.the-variants.{Asking, Keeping}
 use Rattle.method.specs.declared.Party.{Party}
 use Rattle.rack.specs.declared.Rack.{Rack}
 use Rattle.method.specs.declared.Event.{Event}
@@ -106,11 +108,15 @@ resentBy c k (Off replica) p = 0
 resentBy c k (On replica) p = 0
 resentBy c k Unknown p = 0
 
--- what the last operation of a client has cost so far, resends apart: one request to each of n replicas while it asks, two from then on
+-- what an open operation has cost so far, resends apart: one request to each of n replicas while it asks, two from then on
+abbrev pub phaseCost : ℕ → Phase → ℕ
+phaseCost n (Asking held) = n
+phaseCost n (Keeping held) = 2 * n
+
+-- what the last operation of a client has cost so far
 unfoldable pub costIn : ℕ → Work → ℕ
 costIn n Idle = 2 * n
-costIn n (Asking cell goal set held) = n
-costIn n (Keeping cell goal set held) = 2 * n
+costIn n (Open o) = phaseCost n (o .phase)
 
 -- what its operation k, from 1 on, has cost: an earlier one two to each, a later one nothing yet
 unfoldable pub costOf : ℕ → Party → ℕ → ℕ

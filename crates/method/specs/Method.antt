@@ -56,8 +56,8 @@ pub record Starts (s : Sight) (client : Client) (cell : Cell) (goal : Goal) (p :
   pub before : s .party .work ≡ Idle
   pub next : s .party .op ≢ lastOp
   pub plan : p
-    ≡ planned s (activeParty (s .party .op + 1) (Open (asked cell goal))) false (Asked (firstEntry goal client cell))
-    (toReplicas client cell (s .party .op + 1) Ask) (everyReplica (s .quorums .replicas))
+      ≡ planned s (activeParty (s .party .op + 1) (Open (asked cell goal))) false (Asked (firstEntry goal client cell))
+      (toReplicas client cell (s .party .op + 1) Ask) (everyReplica (s .quorums .replicas))
 
 -- ---- deliver: to a replica that is on
 
@@ -109,8 +109,8 @@ pub record Chooses (s : Sight) (m : Message) (p : Plan) : Type 0 where
   pub chosen : Pair
   pub choice : Chosen (heard .operation .goal) (m .client .0) (heardPair heard) chosen
   pub plan : p
-    ≡ planned s (activeParty (s .party .op) (Open (keeping (heard .operation) 0 chosen))) true Nothing
-    (toReplicas (m .client) (heard .operation .cell) (s .party .op) (Keep chosen)) (everyReplica (s .quorums .replicas))
+      ≡ planned s (activeParty (s .party .op) (Open (keeping (heard .operation) 0 chosen))) true Nothing
+      (toReplicas (m .client) (heard .operation .cell) (s .party .op) (Keep chosen)) (everyReplica (s .quorums .replicas))
 
 -- a kept that counts: the client isn't stopped, it is for the present operation, in the keep phase, of a replica not yet in the set
 pub record Counted (s : Sight) (m : Message) : Type 0 where
@@ -138,7 +138,7 @@ pub record Ends (s : Sight) (m : Message) (p : Plan) : Type 0 where
   pub counted : Counted s m
   pub enough : keepsEnough (s .quorums) (countedSet counted) ≡ true
   pub plan : p
-    ≡ planned s (activeParty (s .party .op) Idle) true (Ended (lastEntry (counted .operation .goal) (m .client) (counted .held))) m 0
+      ≡ planned s (activeParty (s .party .op) Idle) true (Ended (lastEntry (counted .operation .goal) (m .client) (counted .held))) m 0
 
 -- what delivering the message m may do; a tell or a kept that doesn't count is used up
 pub data Delivers (s : Sight) (m : Message) (p : Plan) : Type 0 where
@@ -162,8 +162,8 @@ pub record Resends (s : Sight) (client : Client) (p : Plan) : Type 0 where
   pub operation : Operation
   pub before : s .party .work ≡ Open operation
   pub plan : p
-    ≡ planned s (s .party) false Nothing (toReplicas client (operation .cell) (s .party .op) (request (operation .phase)))
-    (others (s .quorums .replicas) (operation .set))
+      ≡ planned s (s .party) false Nothing (toReplicas client (operation .cell) (s .party .op) (request (operation .phase)))
+      (others (s .quorums .replicas) (operation .set))
 
 -- the client never acts again; its operation stays open
 pub record Stops (s : Sight) (p : Plan) : Type 0 where

@@ -4,4 +4,5 @@ pub mod Stays
 pub mod Parts
 pub mod Sending
 pub mod Loop
+pub mod Ordered
 pub mod OnlyOne

@@ -27,6 +27,7 @@ use method::Message;
 use method::Note;
 use method::Sight;
 use plan::plan;
+use quorum::Quorums;
 use rack::Line;
 use rack::Rack;
 use rack::Ran;
@@ -180,8 +181,11 @@ fn go_on(mut r: Rack, start: Start, allowance: usize, events: &[u32]) -> Ran
         let a = place_in(held);
         let party = r.parties[c];
         let pair = r.pairs[a];
-        let sight = Sight {
+        let quorums = Quorums {
             replicas: settings.replicas,
+        };
+        let sight = Sight {
+            quorums: quorums,
             power: r.power,
             party: party,
             pair: pair,

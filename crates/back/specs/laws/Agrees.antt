@@ -48,7 +48,7 @@ use Rattle.rack.specs.laws.Fresh.{made-sound}
 use Rattle.slots.specs.Free.{firstFree}
 use Rattle.quorum.specs.Sets.{membersOf}
 use Rattle.runs.specs.laws.Stays.{set-either, stays, sound-stays}
-use Rattle.runs.specs.laws.Steps.{sound-from}
+use Rattle.runs.specs.laws.Steps.{run-from}
 use Rattle.back.specs.Standing.{openIn, Within, AllWithin, PairSmall, BodySmall, HeldSmall, WorkSmall, FitsWords, Agrees, EventSmall}
 use Rattle.back.specs.laws.Lines.{added, applied-adds, count-long}
 use Rattle.back.specs.laws.Plans.{whose, needs, leaves, Enters, Noted, Keeps, OutcomeKeeps, plan-keeps}
@@ -256,7 +256,7 @@ from-agrees done r (suc left) (x ∷ y ∷ z ∷ v ∷ ws) h s a =
     go (Go p) e ih = ih (appliedOf r (eventOf x y z v) p) (sound-stays r (eventOf x y z v) p s e) (agree-stays r (eventOf x y z v) p s a (event-small x y z v (h 3)) e)
 
 pub run-agrees : (r : Rack) (allowance : ℕ) (events : List ℕ) → Words events → soundOf r ≡ true → Agrees r → Agrees (runOf r allowance events .rack)
-run-agrees r allowance events h s a = rw (sound-from r allowance events s) (from-agrees 0 r allowance events h s a)
+run-agrees r allowance events h s a = rw (run-from r allowance events) (from-agrees 0 r allowance events h s a)
 
 -- ---- a fresh rack
 

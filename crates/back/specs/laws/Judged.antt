@@ -47,7 +47,7 @@ use Rattle.rack.specs.Refusals.{decided}
 use Rattle.rack.specs.Looking.{lookedHeld, sight}
 use Rattle.rack.specs.laws.Fresh.{made-sound}
 use Rattle.runs.specs.laws.Stays.{sound-stays}
-use Rattle.runs.specs.laws.Steps.{sound-from}
+use Rattle.runs.specs.laws.Steps.{run-from}
 use Rattle.promise.specs.laws.Promise.{promise}
 use Rattle.back.specs.Standing.{Agrees}
 use Rattle.back.specs.Writes.{writesBy, writesOf, Differ}
@@ -272,7 +272,7 @@ taken-whole replicas clients cells allowance events h d =
     let es : List Entry = recordOf (runOf r allowance events .rack) in
     let first : recordOf r ≡ [] = made-empty replicas clients cells in
     let c : Clear [] es =
-    rw (sound-from r allowance events s)
+    rw (run-from r allowance events)
     (from-clear 0 r allowance events h s (made-agrees replicas clients cells) (rw first (tt, distinct-clear [] 0 (writesOf events) (writesOf events) d))) in
     taken-legal es (run-legal replicas clients cells allowance events h) ∙ clear-distinct [] 0 es (entries es) c
 

@@ -9,9 +9,10 @@ use lib.ListN.{getD, set, take, length, replicate, length-set, length-replicate,
 use lib.Seq.{getD-set-same, getD-set-other, take-suc-set}
 use borrow.Author.Tests.{le-ltb, eq-eqb, ne-eqb, ltb-true, ltb-false, eqb-true, eqb-false}
 use Rattle.record.specs.declared.Entry.{Entry}
+use Rattle.record.specs.Entry.{clientLimit}
 use Rattle.record.specs.Record.{entryLimit}
 use Rattle.method.specs.declared.Work.{Work}
-use Rattle.method.specs.declared.Work.the-variants.{Idle, Asking, Keeping}
+use Rattle.method.specs.declared.Work.the-variants.{Idle, Open}
 use Rattle.method.specs.declared.Party.{Party}
 use Rattle.rack.specs.declared.Line.{Line}
 use Rattle.rack.specs.declared.Rack.{Rack}
@@ -98,7 +99,7 @@ applied-else r e p c n = getD-set-other (r .parties) (lookedClient r e) c (p .pa
 pub record Numbered (n c : ℕ) (r : Rack) : Type 0 where
   pub sound : soundOf r ≡ true
   pub replicas : r .settings .replicas ≡ n
-  pub parties-long : length (r .parties) ≡ 8
+  pub parties-long : length (r .parties) ≡ clientLimit
   pub lines-long : length (r .lines) ≡ entryLimit
   pub ends : endsOf c (recordOf r) + owes (partyAt r c .work) ≡ partyAt r c .op
 
@@ -153,11 +154,11 @@ module _ (n c k : ℕ) where
 
 fresh-party : (replicas clients cells c : ℕ) → partyAt (freshRack replicas clients cells) c ≡ idle
 unfolding freshRack
-fresh-party replicas clients cells c = go (ltb c 8) refl
+fresh-party replicas clients cells c = go (ltb c clientLimit) refl
   where
-    go : (t : Bool) → ltb c 8 ≡ t → getD (replicate 8 idle) c idle ≡ idle
-    go true e = getD-replicate 8 c idle idle (ltb-true c 8 e)
-    go false e = List·getD-eq-default (replicate 8 idle) idle (ltb-false c 8 e)
+    go : (t : Bool) → ltb c clientLimit ≡ t → getD (replicate clientLimit idle) c idle ≡ idle
+    go true e = getD-replicate clientLimit c idle idle (ltb-true c clientLimit e)
+    go false e = List·getD-eq-default (replicate clientLimit idle) idle (ltb-false c clientLimit e)
 
 -- no operation has a request yet
 fresh-cost : (n k : ℕ) → 1 ≤ k → costOf n idle k ≡ 0
@@ -175,7 +176,7 @@ fresh-numbered c replicas clients cells s =
       record {
         sound = s;
         replicas = refl;
-        parties-long = length-replicate 8 idle;
+        parties-long = length-replicate clientLimit idle;
         lines-long = length-replicate entryLimit blank;
         ends = ap (λ (x : Party). 0 + owes (x .work)) e ∙ sym (ap (λ (x : Party). x .op) e);
       },
@@ -191,8 +192,7 @@ ended-cost n party ended k h l = go (ltb k (party .op)) refl
   where
     finished : (w : Work) → owes w ≡ 0 → costIn n w ≡ 2 * n
     finished Idle e = refl
-    finished (Asking cell goal some held) e = absurd (omega arith)
-    finished (Keeping cell goal some held) e = refl
+    finished (Open o) e = absurd (omega arith)
 
     go : (t : Bool) → ltb k (party .op) ≡ t → cond t (2 * n) (cond (eqb k (party .op)) (costIn n (party .work)) 0) ≡ 2 * n
     go true e = refl

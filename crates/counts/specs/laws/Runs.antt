@@ -16,8 +16,9 @@ use Rattle.rack.specs.declared.Made.{Made}
 use Rattle.rack.specs.Sound.{settingsFit, soundOf}
 use Rattle.rack.specs.Run.{eventOf, appliedOf, turn, ranOf, runFrom, runOf, freshRack, madeOf}
 use Rattle.rack.specs.Refusals.{decided}
+use Rattle.rack.specs.laws.Table.{decided-unsound}
 use Rattle.rack.specs.Counts.{counted, countOver}
-use Rattle.runs.specs.laws.Steps.{sound-from, run-steps}
+use Rattle.runs.specs.laws.Steps.{run-from, run-steps}
 use Rattle.counts.specs.Counts.{totalOf}
 use Rattle.method.specs.laws.Tests.{whichever}
 
@@ -78,7 +79,7 @@ module _ (I : Rack → Type 0) (v : Rack → ℕ) (less more : Event → Plan �
   unfolding totalOf
   run-adds r allowance ws s i =
       let q : Ran = runOf r allowance ws in
-      let e : runFrom 0 r (q .done) ws .rack ≡ q .rack = ap (λ (x : Ran). x .rack) (sym (sound-from r (q .done) ws s) ∙ run-steps r allowance ws .same) in
+      let e : runFrom 0 r (q .done) ws .rack ≡ q .rack = ap (λ (x : Ran). x .rack) (sym (run-from r (q .done) ws) ∙ run-steps r allowance ws .same) in
       subst (λ (x : Rack). I x × (v x + countOver less (q .done) r ws ≡ v r + countOver more (q .done) r ws)) e (from-adds 0 r (q .done) ws i)
 
 -- ---- an unsound rack: nothing is done
@@ -88,22 +89,21 @@ pub record Untouched (f : Event → Plan → ℕ) (r : Rack) (allowance : ℕ) (
   pub count : totalOf f r allowance ws ≡ 0
   pub left : runOf r allowance ws .rack ≡ r
 
--- a run by its three tests
-abbrev runIf : Bool → Bool → Bool → Rack → ℕ → List ℕ → Ran
-runIf none few sound r allowance ws = cond none (ranOf 0 0 r) (cond few (ranOf 0 0 r) (cond sound (runFrom 0 r allowance ws) (ranOf 0 2 r)))
+from-unsound : (done : ℕ) (r : Rack) (left : ℕ) (ws : List ℕ) → soundOf r ≡ false
+    → (runFrom done r left ws .done ≡ done) × (runFrom done r left ws .rack ≡ r)
+unfolding runFrom turn
+from-unsound done r zero ws u = (refl, refl)
+from-unsound done r (suc left) [] u = (refl, refl)
+from-unsound done r (suc left) (k ∷ []) u = (refl, refl)
+from-unsound done r (suc left) (k ∷ a ∷ []) u = (refl, refl)
+from-unsound done r (suc left) (k ∷ a ∷ b ∷ []) u = (refl, refl)
+from-unsound done r (suc left) (k ∷ a ∷ b ∷ v ∷ ws) u = rw (decided-unsound r (eventOf k a b v) u) (refl, refl)
 
 pub unsound-none : (f : Event → Plan → ℕ) (r : Rack) (allowance : ℕ) (ws : List ℕ) → soundOf r ≡ false → Untouched f r allowance ws
 unfolding totalOf runOf countOver
 unsound-none f r allowance ws u =
-    let e = go (eqb allowance 0) (ltb (length ws) 4) in
-    let same : runOf r allowance ws ≡ runIf (eqb allowance 0) (ltb (length ws) 4) false r allowance ws =
-    ap (λ (t : Bool). runIf (eqb allowance 0) (ltb (length ws) 4) t r allowance ws) u in
-    record { count = ap (λ (q : Ran). countOver f (q .done) r ws) same ∙ ap (λ (n : ℕ). countOver f n r ws) (e .0); left = ap (λ (q : Ran). q .rack) same ∙ e .1 }
-  where
-    go : (a b : Bool) → (runIf a b false r allowance ws .done ≡ 0) × (runIf a b false r allowance ws .rack ≡ r)
-    go true b = (refl, refl)
-    go false true = (refl, refl)
-    go false false = (refl, refl)
+    let e = from-unsound 0 r allowance ws u in
+    record { count = ap (λ (n : ℕ). countOver f n r ws) (e .0); left = e .1 }
 
 -- ---- the maker
 

@@ -46,7 +46,7 @@ use Rattle.rack.specs.laws.SoundLaws.{Sound, sound-of, of-sound}
 use Rattle.rack.specs.Run.{eventOf, addressed, cleared, recorded, entriesIn, appliedOf, ranOf, turn, runFrom, runOf}
 use Rattle.rack.specs.Refusals.{noted, freed, checked, decided}
 use Rattle.rack.specs.Looking.{inRack, slotOf, placeIn}
-use Rattle.runs.specs.laws.Steps.{sound-from}
+use Rattle.runs.specs.laws.Steps.{run-from}
 use Rattle.layout.specs.Plain.{plain, plainParty}
 use Rattle.lent.specs.Plain.{plainRack, plainRan}
 use Rattle.lent.specs.laws.Whole.{plain-twice}
@@ -298,4 +298,4 @@ from-alike done r q (suc n) (k ∷ a ∷ b ∷ v ∷ es) h =
 -- runs of two sound racks that differ in nothing else answer alike and leave racks that differ in nothing else
 pub run-alike : (r q : Rack) (n : ℕ) (es : List ℕ) → plainRack r ≡ plainRack q → soundOf q ≡ true → plainRan (runOf r n es) ≡ plainRan (runOf q n es)
 run-alike r q n es h s =
-    ap plainRan (sound-from r n es (sound-alike r q h s)) ∙ from-alike 0 r q n es h ∙ sym (ap plainRan (sound-from q n es s))
+    ap plainRan (run-from r n es) ∙ from-alike 0 r q n es h ∙ sym (ap plainRan (run-from q n es))

@@ -43,7 +43,7 @@ use Rattle.rack.specs.laws.SoundLaws.{Sized, Sound, sound-of, named, ask-open, 
 use Rattle.rack.specs.laws.Decided.{Decided, decided-fits}
 use Rattle.rack.specs.Looking.{lookedHeld, lookedClient, lookedParty, lookedPlace, lookedPair}
 use Rattle.runs.specs.laws.Stays.{set-either, stays, sound-stays}
-use Rattle.runs.specs.laws.Steps.{sound-from}
+use Rattle.runs.specs.laws.Steps.{run-from}
 use Rattle.back.specs.laws.Agrees.{decided-plan}
 use Rattle.layout.specs.Writing.{entryIn}
 use Rattle.layout.specs.laws.Trip.{entryFits, bodySmall, heldSmall, workSmall}
@@ -249,9 +249,9 @@ run-keeps P step done r (suc n) (k ∷ a ∷ b ∷ v ∷ es) s h = go (decided r
     go (Go p) e ih = ih (appliedOf r (eventOf k a b v) p) (sound-stays r (eventOf k a b v) p s e) (step r (eventOf k a b v) p s e h)
 
 pub run-writable : (ws : List ℕ) (r : Rack) (n : ℕ) (es : List ℕ) → soundOf r ≡ true → Writable ws r → Writable ws (runOf r n es .rack)
-run-writable ws r n es s k = rw (sound-from r n es s) (run-keeps (Writable ws) (λ q e p h g. writable-stays ws q e p h g) 0 r n es s k)
+run-writable ws r n es s k = rw (run-from r n es) (run-keeps (Writable ws) (λ q e p h g. writable-stays ws q e p h g) 0 r n es s k)
 
 pub run-plain : (ws : List ℕ) (r : Rack) (n : ℕ) (es : List ℕ) → soundOf r ≡ true → Writable ws r → Plain r → Plain (runOf r n es .rack)
 run-plain ws r n es s k f =
-    rw (sound-from r n es s)
+    rw (run-from r n es)
     (run-keeps (λ (q : Rack). Writable ws q × Plain q) (λ q e p h g x. (writable-stays ws q e p h g (x .0), plain-stays ws q e p h g (x .0) (x .1))) 0 r n es s (k, f) .1)

@@ -12,7 +12,7 @@ use Rattle.rack.specs.declared.Rack.{Rack}
 use Rattle.rack.specs.declared.Ran.{Ran}
 use Rattle.rack.specs.Sound.{soundOf}
 use Rattle.rack.specs.Run.{appliedOf, ranOf, runOf}
-use Rattle.runs.specs.laws.Steps.{run-steps, sound-from}
+use Rattle.runs.specs.laws.Steps.{run-steps, run-from}
 use Rattle.runs.specs.laws.Parts.{run-stays, run-parts}
 use Rattle.runs.specs.Exact.{later}
 use Rattle.play.specs.laws.Parts.{run-front}
@@ -39,7 +39,7 @@ record Grown (r q : Rack) : Type 0 where
 run-grows : (r : Rack) (n : ℕ) (es : List ℕ) → soundOf r ≡ true → Grown r (runOf r n es .rack)
 unfolding appliedOf
 run-grows r n es s =
-    rw (sound-from r n es s)
+    rw (run-from r n es)
     (run-keeps (Grown r) (λ q e p h g k. record { settings = k .settings; entries = omega (arith, k .entries) }) 0 r n es s (record { settings = refl; entries = omega arith }))
 
 -- ---- the words that two calls leave

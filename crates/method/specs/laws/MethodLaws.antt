@@ -1,6 +1,7 @@
 -- Every plan is of the method: what is done of an event is what the method says of its kind. This file alone goes through the text of plans.
 use Prim.Native.Nat.{ℕ}
 use mathlib.Core.Path.{_≡_, refl, sym, _∙_, subst}
+use mathlib.Core.Logic.{_⊎_, inl, inr}
 use mathlib.Core.Bool.{Bool, true, false, cond, not, _&&_}
 use lib.Dec.{eqb}
 use borrow.Author.Tests.{eqb-true, eqb-false, not-true}
@@ -30,6 +31,7 @@ use Rattle.method.specs.declared.Decision.the-variants.{No, Go}
 use Rattle.method.specs.Holding.{holds}
 use Rattle.method.specs.Plan.{usedUp, startOf, askOf, keepOf, current, written, keepsOf, keptCounts, keptIn, keptAt, keptOf, copyOf, resendOf, stopOf}
 use Rattle.method.specs.Refusals.{lastOp, decisionOf}
+use Rattle.method.specs.About.{clientIn, clientOf}
 use Rattle.method.specs.Method.{Chosen, Starts, Resends, Stops, SwitchesOff, SwitchesOn, Heard, heardSet, heardPair, Counted, countedSet, Delivers, Does}
 use Rattle.method.specs.Method.Delivers.{tells, takes, hears, chooses, counts, ends, spends}
 use Rattle.method.specs.laws.Tests.{and-left, and-right, either}
@@ -204,3 +206,31 @@ module _ (s : Sight) where
   -- The law of plans: what is decided to be done of an event is what the method says.
   pub method : (held : InSlot) (e : Event) (p : Plan) → decisionOf s held e ≡ Go p → Does s held e p
   method held e p q = subst (IfGo (Does s held e)) (in-turn s held e ∙ q) (event-does held e)
+
+-- ---- what is sent
+
+-- What a done event sends is of the client that the event is about.
+pub own-messages : (s : Sight) (held : InSlot) (e : Event) (p : Plan) → Does s held e p → (p .to ≡ 0) ⊎ (p .message .client .0 ≡ clientOf e held)
+unfolding clientOf clientIn
+own-messages s held (StartRead client cell) p d = rw (d .plan) (inr refl)
+own-messages s held (StartWrite client cell v) p d = rw (d .plan) (inr refl)
+own-messages s Empty (Deliver slot) p d = absurd d
+own-messages s (Full m) (Deliver slot) p d = go d
+  where
+    go : Delivers s m p → (p .to ≡ 0) ⊎ (p .message .client .0 ≡ m .client .0)
+    go (tells c) = rw (c .plan) (inr refl)
+    go (takes c) = rw (c .plan) (inr refl)
+    go (hears c) = rw (c .plan) (inl refl)
+    go (chooses c) = rw (c .plan) (inr refl)
+    go (counts c) = rw (c .plan) (inl refl)
+    go (ends c) = rw (c .plan) (inl refl)
+    go (spends c) = rw c (inl refl)
+own-messages s Empty (Lose slot) p d = absurd d
+own-messages s (Full m) (Lose slot) p d = rw d (inl refl)
+own-messages s Empty (Copy slot) p d = absurd d
+own-messages s (Full m) (Copy slot) p d = rw d (inr refl)
+own-messages s held (Resend client) p d = rw (d .plan) (inr refl)
+own-messages s held (Stop client) p d = rw (d .plan) (inl refl)
+own-messages s held (Off replica) p d = rw (d .plan) (inl refl)
+own-messages s held (On replica) p d = rw (d .plan) (inl refl)
+own-messages s held Unknown p d = absurd d

@@ -18,7 +18,7 @@ use Rattle.rack.specs.declared.Ran.{Ran}
 use Rattle.rack.specs.Sound.{soundOf}
 use Rattle.rack.specs.Run.{eventOf, appliedOf, turn, ranOf, runFrom, runOf}
 use Rattle.rack.specs.Refusals.{decided}
-use Rattle.runs.specs.laws.Steps.{sound-from, run-steps, parts-off, used-up, too-few}
+use Rattle.runs.specs.laws.Steps.{run-from, run-steps, parts-off, used-up, too-few}
 use Rattle.runs.specs.Exact.{later}
 use Rattle.runs.specs.laws.Parts.{run-parts, run-stays}
 
@@ -39,14 +39,14 @@ from-front (suc n) done r (k ∷ a ∷ b ∷ v ∷ xs) ys zs h = go (decided r (
     go (Go p) ih = ih (appliedOf r (eventOf k a b v) p)
 
 pub run-front : (n : ℕ) (r : Rack) (xs ys zs : List ℕ) → soundOf r ≡ true → 4 * n ≤ length xs → runOf r n (xs ++ ys) ≡ runOf r n (xs ++ zs)
-run-front n r xs ys zs s h = sound-from r n (xs ++ ys) s ∙ from-front n 0 r xs ys zs h ∙ sym (sound-from r n (xs ++ zs) s)
+run-front n r xs ys zs s h = run-from r n (xs ++ ys) ∙ from-front n 0 r xs ys zs h ∙ sym (run-from r n (xs ++ zs))
 
 -- with no allowance, or no words, nothing is done
 none-left : (r : Rack) (ws : List ℕ) → soundOf r ≡ true → runOf r 0 ws ≡ ranOf 0 0 r
-none-left r ws s = sound-from r 0 ws s ∙ used-up 0 r 0 0 ws (omega arith)
+none-left r ws s = run-from r 0 ws ∙ used-up 0 r 0 0 ws (omega arith)
 
 none-there : (r : Rack) (n : ℕ) → soundOf r ≡ true → runOf r n [] ≡ ranOf 0 0 r
-none-there r n s = sound-from r n [] s ∙ too-few 0 r n [] (omega arith)
+none-there r n s = run-from r n [] ∙ too-few 0 r n [] (omega arith)
 
 -- ---- how playing goes on
 
@@ -121,8 +121,8 @@ module _ (s : List ℕ) (allowance : ℕ) (whole : Ran) (r : Rack) (done at : �
       -- one was refused
       some-refused : runOf r n d′ .done < n → ranOf (done + runOf r n d′ .done) (runOf r n d′ .refusal) (runOf r n d′ .rack) ≡ whole
       some-refused h =
-          let fewer : runFrom 0 r n ws .done < 0 + n = rw (← sound-from r n ws (p .sound), ← part) (omega arith) in
-          let stop : runOf r (n + more) ws ≡ runOf r n d′ = sound-from r (n + more) ws (p .sound) ∙ parts-off n more 0 r ws fewer ∙ sym (sound-from r n ws (p .sound)) ∙ sym part in
+          let fewer : runFrom 0 r n ws .done < 0 + n = rw (← run-from r n ws, ← part) (omega arith) in
+          let stop : runOf r (n + more) ws ≡ runOf r n d′ = run-from r (n + more) ws ∙ parts-off n more 0 r ws fewer ∙ sym (run-from r n ws) ∙ sym part in
           sym (p .same ∙ ap (λ (k : ℕ). later done (runOf r k ws)) together ∙ ap (later done) stop)
 
       -- what stands after them is what is left of the script, as far as it is run

@@ -160,6 +160,11 @@ decided-no r e k d = go (eqb (refusalOf r e) 0) refl d
 pub decided-none : (r : Rack) (e : Event) (p : Plan) → decided r e ≡ Go p → (k : ℕ) → applies k r e ≡ false
 decided-none r e p d = done-exactly r e .0 (decided-go r e p d .0)
 
+-- on a rack that isn't sound every event is refused 2
+pub decided-unsound : (r : Rack) (e : Event) → soundOf r ≡ false → decided r e ≡ No 2
+unfolding decided refusalOf leastFrom applies
+decided-unsound r e h = rw h
+
 -- a number that is given is one of 2 to 13
 pub decided-refuses : (r : Rack) (e : Event) (k : ℕ) → decided r e ≡ No k → (2 ≤ k) × (k ≤ 13)
 unfolding refusalOf

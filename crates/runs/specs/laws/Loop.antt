@@ -9,6 +9,8 @@ use lib.Count.{ones}
 use lib.ListN.{getD, set, length, length-set, drop}
 use borrow.Author.Tests.{leb-true, leb-false}
 use Rattle.record.specs.declared.Entry.{Entry}
+use Rattle.record.specs.Entry.{clientLimit}
+use Rattle.record.specs.Record.{entryLimit}
 use Rattle.slots.specs.Free.{markedAt}
 use Rattle.slots.specs.Words.{Maps}
 use Rattle.quorum.specs.Sets.{membersOf}
@@ -24,15 +26,16 @@ use Rattle.method.specs.declared.Note.the-variants.{Nothing, Asked, Ended}
 use Rattle.method.specs.declared.Plan.{Plan}
 use Rattle.method.specs.declared.Decision.{Decision}
 use Rattle.method.specs.declared.Decision.the-variants.{No, Go}
-use Rattle.method.specs.Plan.{planOf}
-use Rattle.rack.specs.Places.{empty, idle, heldIn, freeAt, roomOf, sentOf}
-use Rattle.rack.specs.Sound.{soundOf, owedIn}
+use Rattle.method.specs.Refusals.{decisionOf}
+use Rattle.rack.specs.Places.{slotLimit, pairLimit, empty, idle, heldIn, freeAt, roomOf, sentOf}
+use Rattle.rack.specs.Sound.{soundOf, owedIn, quorumsOf}
 use Rattle.rack.specs.laws.Owed.{owed-in}
 use Rattle.method.specs.About.{clientOf}
 use Rattle.rack.specs.Run.{addressed, cleared, recorded, entriesIn, appliedOf, turn, ranOf, runFrom}
 use Rattle.rack.specs.Refusals.{freed, checked, decided}
 use Rattle.rack.specs.Looking.{inRack, slotOf, placeIn}
 use Rattle.rack.specs.laws.SoundLaws.{sound-of, bits-enough}
+use Rattle.rack.specs.laws.Table.{in-order}
 use Rattle.rack.specs.laws.Decided.{Looked, looked, Decided, decided-fits}
 use Rattle.rack.specs.Looking.{lookedClient, lookedPlace}
 use Rattle.runs.specs.laws.Stays.{stays, sound-stays}
@@ -60,7 +63,7 @@ addressed-count m [] = refl
 addressed-count m (k ∷ ks) = ap suc (addressed-count m ks)
 
 -- the slot that is freed is free again, and each message takes one
-pub room-after : (r : Rack) (e : Event) (p : Plan) → Decided r e p → length (r .wire) ≡ 256
+pub room-after : (r : Rack) (e : Event) (p : Plan) → Decided r e p → length (r .wire) ≡ slotLimit
     → roomOf (appliedOf r e p .wire) + ones (p .to) ≡ roomOf (r .wire) + freed (p .clear)
 unfolding appliedOf freeAt
 room-after r e p d l =
@@ -80,10 +83,10 @@ pub record Going (self : Rack) (allowance : ℕ) (ws : List ℕ) (r : Rack) (fre
   pub sound : soundOf r ≡ true
   pub tied : Maps (freeAt (r .wire)) free
   pub rooms : room ≡ roomOf (r .wire)
-  pub wire-long : length (r .wire) ≡ 256
+  pub wire-long : length (r .wire) ≡ slotLimit
 
 pub going-start : (self : Rack) (allowance : ℕ) (ws : List ℕ) (free : List ℕ) (room : ℕ) → soundOf self ≡ true → Maps (freeAt (self .wire)) free → room ≡ roomOf (self .wire)
-    → length (self .wire) ≡ 256 → Going self allowance ws self free room 0
+    → length (self .wire) ≡ slotLimit → Going self allowance ws self free room 0
 going-start self allowance ws free room so t m l =
     let e : allowance ≡ allowance - 0 = omega arith in
     record { steps = ap (λ (n : ℕ). runFrom 0 self n ws) e; sound = so; tied = t; rooms = m; wire-long = l }
@@ -96,9 +99,9 @@ pub record Most (allowance words n : ℕ) : Type 0 where
 
 -- the parts of the rack that an event looks at are there
 pub record There (j c a : ℕ) : Type 0 where
-  pub slot : j < 256
-  pub client : c < 8
-  pub pair : a < 240
+  pub slot : j < slotLimit
+  pub client : c < clientLimit
+  pub pair : a < pairLimit
 
 module _ (self : Rack) (allowance : ℕ) (ws : List ℕ) (r : Rack) (free : List ℕ) (room i : ℕ) (g : Going self allowance ws r free room i) where
   -- the allowance is used, or the list has ended
@@ -129,10 +132,9 @@ module _ (self : Rack) (allowance : ℕ) (ws : List ℕ) (r : Rack) (free : List
 
   -- a number that is not in this rack
   pub not-there : (e : Event) → inRack (r .settings) e ≡ false → decided r e ≡ No 3
-  unfolding decided
-  not-there e h = rw h
+  not-there e h = in-order r e (g .sound) ∙ rw h
 
-  pub there-slot : (e : Event) (j : ℕ) → inRack (r .settings) e ≡ true → j ≡ slotOf e → j < 256
+  pub there-slot : (e : Event) (j : ℕ) → inRack (r .settings) e ≡ true → j ≡ slotOf e → j < slotLimit
   there-slot e j h ej = rw ej (looked r (sound-of r (g .sound)) e h .slot)
 
   pub there : (e : Event) (j c a : ℕ) → inRack (r .settings) e ≡ true → j ≡ slotOf e → c ≡ clientOf e (heldIn (r .wire) j) → a ≡ placeIn (heldIn (r .wire) j) → There j c a
@@ -145,15 +147,14 @@ module _ (self : Rack) (allowance : ℕ) (ws : List ℕ) (r : Rack) (free : List
   -- the outcome is the definition's
   pub going-plan : (e : Event) (j c a : ℕ) (q o : Decision) → inRack (r .settings) e ≡ true → j ≡ slotOf e → c ≡ clientOf e (heldIn (r .wire) j)
       → a ≡ placeIn (heldIn (r .wire) j)
-      → q ≡ planOf (record {
-        replicas = r .settings .replicas;
+      → q ≡ decisionOf (record {
+        quorums = quorumsOf (r .settings);
         power = r .power;
         party = getD (r .parties) c idle;
         pair = getD (r .pairs) a freshPair;
       }) (heldIn (r .wire) j) e
       → o ≡ checked q (r .count + owedIn (r .settings .clients) (r .parties)) room → decided r e ≡ o
-  unfolding decided
-  going-plan e j c a q o h ej ec ea eq eo = sym (eo ∙ rw (eq, h, g .rooms, ← owed-in r, ec, ea, ej))
+  going-plan e j c a q o h ej ec ea eq eo = in-order r e (g .sound) ∙ sym (eo ∙ rw (eq, h, g .rooms, ← owed-in r, ec, ea, ej))
 
   -- its slot is full where it is emptied
   going-full : (e : Event) (j : ℕ) (p : Plan) → decided r e ≡ Go p → j ≡ slotOf e → p .clear ≡ true → freeAt (r .wire) j ≡ false
@@ -171,12 +172,12 @@ module _ (self : Rack) (allowance : ℕ) (ws : List ℕ) (r : Rack) (free : List
       (bits-enough (r .settings) (sound-of r (g .sound) .settings))
 
   -- the entry finds its place
-  pub going-entry : (e : Event) (p : Plan) → decided r e ≡ Go p → r .count + entriesIn (p .note) ≤ 2048
+  pub going-entry : (e : Event) (p : Plan) → decided r e ≡ Go p → r .count + entriesIn (p .note) ≤ entryLimit
   unfolding appliedOf
   going-entry e p d = omega (arith, stays r e p (g .sound) d .entries)
 
   -- the count of the free slots can be kept
-  pub room-fits : (e : Event) (p : Plan) → decided r e ≡ Go p → (ones (p .to) ≤ room + freed (p .clear)) × (room ≤ 256)
+  pub room-fits : (e : Event) (p : Plan) → decided r e ≡ Go p → (ones (p .to) ≤ room + freed (p .clear)) × (room ≤ slotLimit)
   room-fits e p d = (omega (arith, g .rooms, decided-fits r e p (g .sound) d .room), omega (arith, g .rooms, room-most (r .wire)))
 
   -- the next turn
@@ -241,7 +242,7 @@ shipping-end v m to r free left s e = s .same ∙ ap (wired v) (sym (sending-end
 
 -- an entry's place after the inner loop
 pub entry-place : (v : Rack) (m : Message) (to : ℕ) (q : Rack) (free : List ℕ) (left : ℕ) → Shipping v m to q free left → (n : Note) → entriesIn n ≡ 1
-    → v .count + entriesIn n ≤ 2048 → q .count < 2048
+    → v .count + entriesIn n ≤ entryLimit → q .count < entryLimit
 entry-place v m to q free left s n o h = let c : q .count ≡ v .count = ap (λ (x : Rack). x .count) (s .same) in omega arith
 
 pub asked-one : (n : Note) (x : Entry) → n ≡ Asked x → entriesIn n ≡ 1

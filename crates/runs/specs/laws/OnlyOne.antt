@@ -10,16 +10,19 @@ use Rattle.quorum.specs.Sets.{setBits, hasReplica, everyReplica, membersFrom}
 use Rattle.slots.specs.Free.{countFrom, firstFrom}
 use Rattle.rack.specs.declared.Rack.{Rack}
 use Rattle.rack.specs.declared.Ran.{Ran}
-use Rattle.method.specs.Plan.{started, startIn, startOf, ofSlot, planOf}
+use Rattle.method.specs.Plan.{startOf, planOf}
+use Rattle.method.specs.Refusals.{isUnknown, isStart, namesSlot, namesClient, isResend, isDelivery, slotEmpty, clientStopped, alreadyOpen, noneOpen, replicaOff, switchedSo}
+use Rattle.method.specs.Refusals.{opSpent, numberSpent, decisionOf}
 use Rattle.rack.specs.Places.{freeAt, roomOf, sentOf}
 use Rattle.rack.specs.Sound.{settingsFit, owes, owedBy, owedIn, owed}
 use Rattle.method.specs.About.{clientIn, clientOf}
 use Rattle.rack.specs.Run.{freshRack, byte, eventOf, addressed, cleared, recorded, entriesIn, appliedOf, turn, ranOf}
-use Rattle.rack.specs.Refusals.{noted, freed, checked, decided}
+use Rattle.rack.specs.Refusals.{noted, freed, checked}
 use Rattle.rack.specs.Looking.{inRack, slotOf, placeIn}
-use Rattle.rack.specs.Run.{runFrom, runOf}
+use Rattle.rack.specs.Run.{runOf}
 use Rattle.rack.specs.laws.Fresh.{fresh-sound}
-use Rattle.runs.specs.laws.Steps.{run-steps, sound-from}
+use Rattle.runs.specs.laws.Steps.{run-steps}
+use Rattle.runs.specs.laws.Ordered.{orderedFrom, ordered}
 use Rattle.runs.specs.Same.{SameRan}
 use Rattle.runs.specs.Examples.{Starts, Delivers}
 
@@ -45,14 +48,15 @@ record Begun (q : Ran) : Type 0 where
   room : roomOf (q .rack .wire) ≡ 253
   count : q .rack .count ≡ 1
 
-begun-from : Begun (runFrom 0 (freshRack 3 1 1) 5 (1 ∷ 0 ∷ 0 ∷ 18 ∷ []))
-unfolding setBits hasReplica everyReplica membersFrom ones countFrom firstFrom started startIn startOf planOf freeAt roomOf sentOf owes owedBy owedIn owed freshRack byte eventOf
-    inRack slotOf clientIn placeIn clientOf noted freed checked decided addressed cleared recorded entriesIn appliedOf turn runFrom signedOf
+begun-from : Begun (orderedFrom 0 (freshRack 3 1 1) 5 (1 ∷ 0 ∷ 0 ∷ 18 ∷ []))
+unfolding setBits hasReplica everyReplica membersFrom ones countFrom firstFrom startOf planOf freeAt roomOf sentOf owes owedBy owedIn owed freshRack byte eventOf
+    inRack slotOf clientIn placeIn clientOf isUnknown isStart namesSlot namesClient isResend isDelivery slotEmpty clientStopped alreadyOpen noneOpen replicaOff switchedSo
+    opSpent numberSpent decisionOf noted freed checked addressed cleared recorded entriesIn appliedOf turn orderedFrom signedOf
 begun-from = record { done = refl; refusal = refl; room = refl; count = refl }
 
 begun : (q : Ran) → Starts q → Begun q
 unfolding settingsFit
-begun q p = rw (p ∙ sound-from (freshRack 3 1 1) 5 (1 ∷ 0 ∷ 0 ∷ 18 ∷ []) (fresh-sound 3 1 1 refl)) begun-from
+begun q p = rw (p ∙ ordered (freshRack 3 1 1) 5 (1 ∷ 0 ∷ 0 ∷ 18 ∷ []) (fresh-sound 3 1 1 refl)) begun-from
 
 -- a rack that always refuses
 pub not-always-refused : (q : Ran) → Starts q → 0 < q .refusal → ⊥
@@ -81,8 +85,8 @@ done-leaves s allowance ws q p = rw p (run-steps s allowance ws .same)
 -- ---- a delivery from a slot that is empty
 
 refused-4 : (q : Ran) → Delivers q → q ≡ ranOf 0 4 (freshRack 3 1 1)
-unfolding settingsFit planOf ofSlot freshRack eventOf inRack slotOf clientIn placeIn clientOf checked decided turn runFrom
-refused-4 q p = p ∙ sound-from (freshRack 3 1 1) 1 (2 ∷ 0 ∷ 0 ∷ 0 ∷ []) (fresh-sound 3 1 1 refl)
+unfolding settingsFit freshRack eventOf inRack slotOf clientIn placeIn clientOf isUnknown namesSlot slotEmpty decisionOf checked turn orderedFrom
+refused-4 q p = p ∙ ordered (freshRack 3 1 1) 1 (2 ∷ 0 ∷ 0 ∷ 0 ∷ []) (fresh-sound 3 1 1 refl)
 
 -- it isn't done, and it isn't another refusal
 pub not-done-empty : (q : Ran) → Delivers q → q .done ≡ 1 → ⊥

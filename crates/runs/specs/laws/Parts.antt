@@ -13,7 +13,7 @@ use Rattle.rack.specs.declared.Ran.{Ran}
 use Rattle.rack.specs.Sound.{soundOf}
 use Rattle.rack.specs.Run.{eventOf, appliedOf, turn, ranOf, runFrom, runOf}
 use Rattle.rack.specs.Refusals.{decided}
-use Rattle.runs.specs.laws.Steps.{sound-from, parts-on}
+use Rattle.runs.specs.laws.Steps.{run-from, parts-on}
 use Rattle.runs.specs.laws.Stays.{sound-stays}
 use Rattle.runs.specs.Exact.{later}
 
@@ -35,12 +35,7 @@ from-stays done r (suc left) (k ∷ a ∷ b ∷ v ∷ ws) s = go (decided r (eve
 
 pub run-stays : (r : Rack) (allowance : ℕ) (ws : List ℕ) → soundOf r ≡ true → soundOf (runOf r allowance ws .rack) ≡ true
 unfolding runOf
-run-stays r allowance ws s = go (eqb allowance 0) (ltb (length ws) 4)
-  where
-    go : (a b : Bool) → soundOf (cond a (ranOf 0 0 r) (cond b (ranOf 0 0 r) (cond (soundOf r) (runFrom 0 r allowance ws) (ranOf 0 2 r))) .rack) ≡ true
-    go true b = s
-    go false true = s
-    go false false = rw s (from-stays 0 r allowance ws s)
+run-stays r allowance ws s = from-stays 0 r allowance ws s
 
 -- ---- the number done counts from where a run starts
 
@@ -68,9 +63,9 @@ run-parts r q m n ws s h =
     let t : soundOf q ≡ true = ap (λ (x : Ran). soundOf (x .rack)) (sym h) ∙ run-stays r m ws s in
     let y : 0 + m ≡ m + 0 = omega arith in
     let x : m ≡ 0 + m = omega arith in
-    let f : runFrom 0 r m ws ≡ ranOf (0 + m) 0 q = sym (sound-from r m ws s) ∙ h ∙ ap (λ (d : ℕ). ranOf d 0 q) x in
-    sound-from r (m + n) ws s
+    let f : runFrom 0 r m ws ≡ ranOf (0 + m) 0 q = sym (run-from r m ws) ∙ h ∙ ap (λ (d : ℕ). ranOf d 0 q) x in
+    run-from r (m + n) ws
     ∙ parts-on m n 0 r q ws f
     ∙ ap (λ (d : ℕ). runFrom d q n (drop (4 * m) ws)) y
     ∙ from-later m 0 q n (drop (4 * m) ws)
-    ∙ ap (later m) (sym (sound-from q n (drop (4 * m) ws) t))
+    ∙ ap (later m) (sym (run-from q n (drop (4 * m) ws)))

@@ -16,7 +16,7 @@ use Rattle.slots.specs.laws.Finding.{tied-same}
 use Rattle.slots.specs.laws.UpTo.{freeBelow, upto-next, upto-all}
 use Rattle.method.specs.declared.Message.{Message}
 use Rattle.rack.specs.declared.Slot.{Slot}
-use Rattle.rack.specs.Places.{empty, full, heldIn, freeAt, roomOf, sentOf}
+use Rattle.rack.specs.Places.{slotLimit, empty, full, heldIn, freeAt, roomOf, sentOf}
 use Rattle.method.specs.Refusals.{isEmpty}
 use Rattle.method.specs.Plan.{messageOf}
 use Rattle.rack.specs.Run.{cleared, addressed}
@@ -28,13 +28,13 @@ use Rattle.quorum.specs.laws.LowestMember.{members-next, members-none, rest-les
 abbrev pub lowestIn : List Slot → ℕ
 lowestIn w = firstFree (freeAt w)
 
-pub room-most : (w : List Slot) → roomOf w ≤ 256
+pub room-most : (w : List Slot) → roomOf w ≤ slotLimit
 unfolding roomOf
-room-most w = count-most 256 0 (freeAt w)
+room-most w = count-most slotLimit 0 (freeAt w)
 
 -- the lowest free slot is one of the wire's and is free, and none below it is
 pub record LowestSlot (w : List Slot) : Type 0 where
-  pub below : lowestIn w < 256
+  pub below : lowestIn w < slotLimit
   pub free : freeAt w (lowestIn w) ≡ true
   pub first : (j : ℕ) → j < lowestIn w → freeAt w j ≡ false
 
@@ -42,7 +42,7 @@ pub record LowestSlot (w : List Slot) : Type 0 where
 pub low-free : (w : List Slot) → 0 < roomOf w → LowestSlot w
 unfolding roomOf
 low-free w h =
-    let b : lowestIn w < 256 = some-free (freeAt w) h in
+    let b : lowestIn w < slotLimit = some-free (freeAt w) h in
     record { below = b; free = lowest-free (freeAt w) b; first = lowest-least (freeAt w) }
 
 -- ---- a message in a slot: it is taken, the others are as they were
@@ -60,11 +60,11 @@ free-taken w i m h k = go (eqb k i) refl
         ap (λ (s : Slot). isEmpty (s .held)) (getD-set-other w i k (full m) empty q) ∙ sym (taken-else (λ j. isEmpty (getD w j empty .held)) i k q)
 
 -- one slot less is free after a message was sent
-pub sent-one : (w : List Slot) (m : Message) → length w ≡ 256 → 0 < roomOf w → roomOf (set w (lowestIn w) (full m)) + 1 ≡ roomOf w
+pub sent-one : (w : List Slot) (m : Message) → length w ≡ slotLimit → 0 < roomOf w → roomOf (set w (lowestIn w) (full m)) + 1 ≡ roomOf w
 unfolding roomOf
 sent-one w m l h =
     let f : LowestSlot w = low-free w h in
-    let s = count-same 256 0 (takenAt (freeAt w) (lowestIn w)) (freeAt (set w (lowestIn w) (full m))) (λ j a b. free-taken w (lowestIn w) m (omega (arith, l, f .below)) j) in
+    let s = count-same slotLimit 0 (takenAt (freeAt w) (lowestIn w)) (freeAt (set w (lowestIn w) (full m))) (λ j a b. free-taken w (lowestIn w) m (omega (arith, l, f .below)) j) in
     omega (arith, s, count-taken (freeAt w) (lowestIn w) (f .below) (f .free))
 
 -- ---- several messages
@@ -80,14 +80,14 @@ Finds w [] = Unit {0}
 Finds w (m ∷ ms) = LowestSlot w × Finds (set w (lowestIn w) (full m)) ms
 
 -- with as much room as there is to send
-pub sent-finds : (w : List Slot) (ms : List Message) → length w ≡ 256 → length ms ≤ roomOf w → Finds w ms
+pub sent-finds : (w : List Slot) (ms : List Message) → length w ≡ slotLimit → length ms ≤ roomOf w → Finds w ms
 sent-finds w [] l h = tt
 sent-finds w (m ∷ ms) l h =
     let r : 0 < roomOf w = omega arith in
     (low-free w r, sent-finds (set w (lowestIn w) (full m)) ms (length-set w (lowestIn w) (full m) ∙ l) (omega (arith, sent-one w m l r)))
 
 -- and the room falls by as many
-pub sent-room : (w : List Slot) (ms : List Message) → length w ≡ 256 → length ms ≤ roomOf w → roomOf (sentOf w ms) + length ms ≡ roomOf w
+pub sent-room : (w : List Slot) (ms : List Message) → length w ≡ slotLimit → length ms ≤ roomOf w → roomOf (sentOf w ms) + length ms ≡ roomOf w
 unfolding sentOf
 sent-room w [] l h = omega arith
 sent-room w (m ∷ ms) l h =
@@ -123,12 +123,12 @@ free-cleared true j w h k = go (eqb k j) refl
         ap (λ (s : Slot). isEmpty (s .held)) (getD-set-other w j k empty empty q) ∙ sym (given-else (λ i. isEmpty (getD w i empty .held)) j k q)
 
 -- a delivered slot counts as free
-pub cleared-room : (b : Bool) (j : ℕ) (w : List Slot) → j < 256 → length w ≡ 256 → (b ≡ true → freeAt w j ≡ false) → roomOf (cleared b j w) ≡ roomOf w + freed b
+pub cleared-room : (b : Bool) (j : ℕ) (w : List Slot) → j < slotLimit → length w ≡ slotLimit → (b ≡ true → freeAt w j ≡ false) → roomOf (cleared b j w) ≡ roomOf w + freed b
 unfolding roomOf freed
-cleared-room b j w h l f = go b refl (count-same 256 0 (markedAt b (freeAt w) j) (freeAt (cleared b j w)) (λ k x y. free-cleared b j w (omega (arith, l)) k)) f
+cleared-room b j w h l f = go b refl (count-same slotLimit 0 (markedAt b (freeAt w) j) (freeAt (cleared b j w)) (λ k x y. free-cleared b j w (omega (arith, l)) k)) f
   where
-    go : (t : Bool) → b ≡ t → countFrom 256 0 (freeAt (cleared b j w)) ≡ countFrom 256 0 (markedAt b (freeAt w) j) → (b ≡ true → freeAt w j ≡ false)
-        → countFrom 256 0 (freeAt (cleared b j w)) ≡ countFrom 256 0 (freeAt w) + freed b
+    go : (t : Bool) → b ≡ t → countFrom slotLimit 0 (freeAt (cleared b j w)) ≡ countFrom slotLimit 0 (markedAt b (freeAt w) j) → (b ≡ true → freeAt w j ≡ false)
+        → countFrom slotLimit 0 (freeAt (cleared b j w)) ≡ countFrom slotLimit 0 (freeAt w) + freed b
     go true e s f = s ∙ rw e (count-given (freeAt w) j h (f e))
     go false e s f = s ∙ rw e (omega arith)
 
@@ -152,7 +152,7 @@ pub record Sending (n : ℕ) (v : List Slot) (m : Message) (to : ℕ) (w : List 
   pub sent : sentOf v (addressed m (membersOf n to)) ≡ sentOf w (addressed m (membersOf n left))
   pub tied : Maps (freeAt w) free
   pub enough : ones left ≤ roomOf w
-  pub long : length w ≡ 256
+  pub long : length w ≡ slotLimit
   pub small : left < 2 ^ n
   pub most : n ≤ setBits
 
@@ -160,13 +160,13 @@ module _ (n : ℕ) (v : List Slot) (m : Message) (to : ℕ) (w : List Slot) (fre
   sending-room : 0 < left → 0 < roomOf w
   sending-room l = omega (arith, s .enough, ones-rest n left (s .most) (s .small) l)
 
-  pub sending-place : 0 < left → (after : List ℕ) (f : ℕ) → Took (freeAt w) after f → f < 256
+  pub sending-place : 0 < left → (after : List ℕ) (f : ℕ) → Took (freeAt w) after f → f < slotLimit
   sending-place l after f t = omega (arith, t .slot, low-free w (sending-room l) .below)
 
   pub sending-more : 0 < left → (after : List ℕ) (f k x : ℕ) (y : Message) → Took (freeAt w) after f → k ≡ lowestOf left
       → x ≡ restOf left → y ≡ messageTo m k → Sending n v m to (set w f (full y)) after x
   sending-more l after f k x y t ek ex ey =
-      let h : f < 256 = sending-place l after f t in
+      let h : f < slotLimit = sending-place l after f t in
       let e : set w f (full y) ≡ set w (lowestIn w) (full (messageTo m (lowestOf left))) =
       ap (λ (i : ℕ). set w i (full y)) (t .slot) ∙ ap (λ (z : Message). set w (lowestIn w) (full z)) (ey ∙ ap (messageTo m) ek) in
       let q : membersOf n left ≡ lowestOf left ∷ membersOf n x =
@@ -186,8 +186,8 @@ module _ (n : ℕ) (v : List Slot) (m : Message) (to : ℕ) (w : List Slot) (fre
   sending-end e = s .sent ∙ ap (λ (x : ℕ). sentOf w (addressed m (membersOf n x))) e ∙ sent-none n w m
 
 -- the slot of the event was emptied or not, and the loop begins
-pub sending-start : (n : ℕ) (w : List Slot) (j : ℕ) (b : Bool) (s : Slot) (m : Message) (to : ℕ) (free after : List ℕ) → s ≡ slotAfter b (getD w j empty) → j < 256
-    → length w ≡ 256 → (b ≡ true → freeAt w j ≡ false) → Maps (freeAt w) free → ((f : ℕ → Bool) → Maps f free → Maps (markedAt b f j) after)
+pub sending-start : (n : ℕ) (w : List Slot) (j : ℕ) (b : Bool) (s : Slot) (m : Message) (to : ℕ) (free after : List ℕ) → s ≡ slotAfter b (getD w j empty) → j < slotLimit
+    → length w ≡ slotLimit → (b ≡ true → freeAt w j ≡ false) → Maps (freeAt w) free → ((f : ℕ → Bool) → Maps f free → Maps (markedAt b f j) after)
     → ones to ≤ roomOf w + freed b → to < 2 ^ n → n ≤ setBits → Sending n (set w j s) m to (set w j s) after to
 sending-start n w j b s m to free after es h l f t k o sm nm =
     let e : set w j s ≡ cleared b j w = ap (set w j) es ∙ cleared-is b j w in
@@ -207,5 +207,5 @@ pub map-next : (w : List Slot) (i : ℕ) (b : Bool) (ws : List ℕ) → b ≡ is
 unfolding freeAt
 map-next w i b ws e t = upto-next i (freeAt w) ws (rw e at t)
 
-pub map-all : (w : List Slot) (i : ℕ) (ws : List ℕ) → i ≤ 256 → 256 ≤ i → Maps (freeBelow i (freeAt w)) ws → Maps (freeAt w) ws
-map-all w i ws h l t = let e : i ≡ 256 = omega arith in upto-all (freeAt w) ws (rw e at t)
+pub map-all : (w : List Slot) (i : ℕ) (ws : List ℕ) → i ≤ slotLimit → slotLimit ≤ i → Maps (freeBelow i (freeAt w)) ws → Maps (freeAt w) ws
+map-all w i ws h l t = let e : i ≡ slotLimit = omega arith in upto-all (freeAt w) ws (rw e at t)

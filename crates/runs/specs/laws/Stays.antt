@@ -12,6 +12,7 @@ use Rattle.quorum.specs.Sets.{hasReplica, keepIf, membersFrom, membersOf}
 use Rattle.slots.specs.Free.{firstFree}
 use Rattle.stamps.specs.declared.Pair.{Pair}
 use Rattle.method.specs.declared.Message.{Message}
+use Rattle.record.specs.Record.{entryLimit}
 use Rattle.rack.specs.declared.Slot.{Slot}
 use Rattle.method.specs.declared.Party.{Party}
 use Rattle.rack.specs.declared.Settings.{Settings}
@@ -21,7 +22,7 @@ use Rattle.method.specs.declared.Event.{Event}
 use Rattle.method.specs.declared.Plan.{Plan}
 use Rattle.method.specs.declared.Decision.the-variants.{Go}
 use Rattle.method.specs.Plan.{messageOf}
-use Rattle.rack.specs.Places.{empty, full, idle, pairPlace, heldIn, freeAt, sentOf}
+use Rattle.rack.specs.Places.{slotLimit, empty, full, idle, pairPlace, heldIn, freeAt, sentOf}
 use Rattle.rack.specs.Sound.{pairFits, messageFits, heldFits, workFits, owes, owedBy, owed, soundOf, owedIn}
 use Rattle.rack.specs.Run.{addressed, cleared, entriesIn, appliedOf}
 use Rattle.rack.specs.Refusals.{decided}
@@ -70,8 +71,8 @@ abbrev AllLess : ℕ → List ℕ → Type 0
 AllLess n [] = Unit {0}
 AllLess n (k ∷ ks) = (k < n) × AllLess n ks
 
-sent-fits : (z : Settings) (ms : List Message) (w : List Slot) → AllFit z ms → ((i : ℕ) → i < 256 → heldFits z (heldIn w i) ≡ true)
-    → (i : ℕ) → i < 256 → heldFits z (heldIn (sentOf w ms) i) ≡ true
+sent-fits : (z : Settings) (ms : List Message) (w : List Slot) → AllFit z ms → ((i : ℕ) → i < slotLimit → heldFits z (heldIn w i) ≡ true)
+    → (i : ℕ) → i < slotLimit → heldFits z (heldIn (sentOf w ms) i) ≡ true
 unfolding sentOf heldFits
 sent-fits z [] w h k i l = k i l
 sent-fits z (m ∷ ms) w h k i l =
@@ -94,8 +95,8 @@ unfolding addressed
 addressed-fits z m [] h b = tt
 addressed-fits z m (k ∷ ks) h b = (h k (b .0), addressed-fits z m ks h (b .1))
 
-cleared-fits : (z : Settings) (b : Bool) (j : ℕ) (w : List Slot) → ((i : ℕ) → i < 256 → heldFits z (heldIn w i) ≡ true)
-    → (i : ℕ) → i < 256 → heldFits z (heldIn (cleared b j w) i) ≡ true
+cleared-fits : (z : Settings) (b : Bool) (j : ℕ) (w : List Slot) → ((i : ℕ) → i < slotLimit → heldFits z (heldIn w i) ≡ true)
+    → (i : ℕ) → i < slotLimit → heldFits z (heldIn (cleared b j w) i) ≡ true
 unfolding cleared heldFits
 cleared-fits z true j w h i l = set-either (λ (s : Slot). heldFits z (s .held) ≡ true) w j empty empty i refl (h i l)
 cleared-fits z false j w h i l = h i l
@@ -106,7 +107,7 @@ applied-owed : (r : Rack) (e : Event) (p : Plan) → owed (appliedOf r e p) ≡ 
 unfolding appliedOf
 applied-owed r e p = owed-in (appliedOf r e p)
 
-entries-stay : (r : Rack) (e : Event) (p : Plan) → Decided r e p → r .count + entriesIn (p .note) + owed (appliedOf r e p) ≤ 2048
+entries-stay : (r : Rack) (e : Event) (p : Plan) → Decided r e p → r .count + entriesIn (p .note) + owed (appliedOf r e p) ≤ entryLimit
 entries-stay r e p d =
     omega (arith, d .entries, applied-owed r e p, owed-in r, owed-store (r .settings .clients) (lookedClient r e) (r .parties) (p .party) (d .looked .client))
 

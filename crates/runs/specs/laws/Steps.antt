@@ -1,13 +1,12 @@
 -- A schedule, an event at a time: the events done are the definition's steps, and what is refused changes nothing.
 use Prim.Native.Nat.{ℕ, zero, suc, _+_, _-_, _*_, _/_, _≤_, _<_}
 use mathlib.Core.Path.{_≡_, refl, ap, sym, _∙_}
-use mathlib.Core.Bool.{Bool, true, false, cond}
+use mathlib.Core.Logic.{_≢_}
+use mathlib.Core.Bool.{false}
 use mathlib.Core.List.{List, [], _∷_}
 use native.Mathlib.Omega.{arith}
-use lib.Dec.{eqb, ltb}
 use lib.ListN.{getD, drop, length, length-drop}
 use lib.Seq.{drop-cons}
-use borrow.Author.Tests.{eqb-true, ltb-true}
 use Rattle.method.specs.declared.Event.{Event}
 use Rattle.method.specs.declared.Plan.{Plan}
 use Rattle.method.specs.declared.Decision.{Decision}
@@ -17,6 +16,7 @@ use Rattle.rack.specs.declared.Ran.{Ran}
 use Rattle.rack.specs.Sound.{soundOf}
 use Rattle.rack.specs.Run.{eventOf, appliedOf, turn, ranOf, runFrom, runOf}
 use Rattle.rack.specs.Refusals.{decided}
+use Rattle.rack.specs.laws.Table.{decided-unsound}
 use Rattle.runs.specs.Exact.{Exact}
 
 -- the event at place i of the words
@@ -125,44 +125,42 @@ steps done r (suc left) (k ∷ a ∷ b ∷ v ∷ ws) = go (decided r (eventOf k 
           same = ap (λ (n : ℕ). runFrom done r n (k ∷ a ∷ b ∷ v ∷ ws)) f ∙ went done (q .done - (done + 1)) r k a b v p ws e ∙ s .same;
         }
 
-no-step : (r : Rack) (allowance n : ℕ) (ws : List ℕ) → Exact r allowance ws (ranOf 0 n r)
+-- a run begins with no event done
+pub run-from : (r : Rack) (n : ℕ) (ws : List ℕ) → runOf r n ws ≡ runFrom 0 r n ws
 unfolding runOf
-no-step r allowance n ws = record { most = omega arith; words = omega arith; same = refl }
+run-from r n ws = refl
 
-none-allowed : (r : Rack) (ws : List ℕ) → runFrom 0 r 0 ws ≡ ranOf 0 0 r
-unfolding runFrom
-none-allowed r ws = refl
+-- no event is tried at allowance 0
+pub none-allowed : (r : Rack) (n : ℕ) (ws : List ℕ) → n ≡ 0 → runOf r n ws ≡ ranOf 0 0 r
+unfolding runOf runFrom
+none-allowed r n ws e = rw e
 
--- on a sound rack the tests before the first event change nothing
-pub sound-from : (r : Rack) (n : ℕ) (ws : List ℕ) → soundOf r ≡ true → runOf r n ws ≡ runFrom 0 r n ws
+-- nor on an empty list
+pub none-there : (r : Rack) (n : ℕ) (ws : List ℕ) → length ws < 4 → runOf r n ws ≡ ranOf 0 0 r
 unfolding runOf
-sound-from r n ws s = go (ltb (length ws) 4) refl (eqb n 0) refl
-  where
-    go : (b : Bool) → ltb (length ws) 4 ≡ b → (a : Bool) → eqb n 0 ≡ a
-        → cond a (ranOf 0 0 r) (cond b (ranOf 0 0 r) (cond (soundOf r) (runFrom 0 r n ws) (ranOf 0 2 r))) ≡ runFrom 0 r n ws
-    go true e true q = sym (too-few 0 r n ws (ltb-true (length ws) 4 e))
-    go true e false q = sym (too-few 0 r n ws (ltb-true (length ws) 4 e))
-    go false e true q = sym (ap (λ (k : ℕ). runFrom 0 r k ws) (eqb-true n 0 q) ∙ none-allowed r ws)
-    go false e false q = rw s
+none-there r n ws h = too-few 0 r n ws h
+
+-- 2: an unsound rack, as soon as an event is tried
+pub none-sound : (r : Rack) (n : ℕ) (ws : List ℕ) → soundOf r ≡ false → n ≢ 0 → 4 ≤ length ws → runOf r n ws ≡ ranOf 0 2 r
+unfolding runOf runFrom turn
+none-sound r zero ws h d l = absurd (d refl)
+none-sound r (suc n) [] h d l = absurd (omega arith)
+none-sound r (suc n) (k ∷ []) h d l = absurd (omega arith)
+none-sound r (suc n) (k ∷ a ∷ []) h d l = absurd (omega arith)
+none-sound r (suc n) (k ∷ a ∷ b ∷ []) h d l = absurd (omega arith)
+none-sound r (suc n) (k ∷ a ∷ b ∷ v ∷ ws) h d l = rw (decided-unsound r (eventOf k a b v) h)
 
 pub run-steps : (r : Rack) (allowance : ℕ) (ws : List ℕ) → Exact r allowance ws (runOf r allowance ws)
 unfolding runOf
-run-steps r allowance ws = go (eqb allowance 0) refl (ltb (length ws) 4) refl (soundOf r) refl
-  where
-    go : (a : Bool) → eqb allowance 0 ≡ a → (b : Bool) → ltb (length ws) 4 ≡ b → (c : Bool) → soundOf r ≡ c
-        → Exact r allowance ws (cond a (ranOf 0 0 r) (cond b (ranOf 0 0 r) (cond c (runFrom 0 r allowance ws) (ranOf 0 2 r))))
-    go true ea b eb c ec = no-step r allowance 0 ws
-    go false ea true eb c ec = no-step r allowance 0 ws
-    go false ea false eb false ec = no-step r allowance 2 ws
-    go false ea false eb true ec =
-        let q : Ran = runFrom 0 r allowance ws in
-        let s : Stepped 0 r allowance ws q = steps 0 r allowance ws in
-        let e : q .done - 0 ≡ q .done = omega arith in
-        record {
-          most = omega (arith, s .most);
-          words = omega (arith, s .words);
-          same = sound-from r (q .done) ws ec ∙ ap (λ (n : ℕ). runFrom 0 r n ws) (sym e) ∙ s .same;
-        }
+run-steps r allowance ws =
+    let q : Ran = runFrom 0 r allowance ws in
+    let s : Stepped 0 r allowance ws q = steps 0 r allowance ws in
+    let e : q .done - 0 ≡ q .done = omega arith in
+    record {
+      most = omega (arith, s .most);
+      words = omega (arith, s .words);
+      same = ap (λ (n : ℕ). runFrom 0 r n ws) (sym e) ∙ s .same;
+    }
 
 -- ---- a schedule in two parts
 

@@ -21,17 +21,18 @@ use Rattle.verdict.specs.laws.Bench.{allBytes, no-other, lowest-2, twelve-judge
 use Rattle.quorum.specs.Sets.{setBits, hasReplica, withReplica, majority, asksEnough, keepsEnough, everyReplica, within, membersFrom}
 use Rattle.slots.specs.Free.{countFrom, firstFrom}
 use Rattle.stamps.specs.Stamp.{stampLess, raised}
-use Rattle.method.specs.Plan.{started, startIn, startOf, askOf, keepOf, current, keepsOf, phaseEnds, tellCounts, tellIn, tellOf, keptCounts, keptIn, keptOf}
+use Rattle.method.specs.Plan.{startOf, askOf, keepOf, current, chosen, keepsOf, tellCounts, tellIn, tellAt, tellOf, keptCounts, keptIn, keptAt, keptOf, deliverIn, deliverOf, ofSlot}
+use Rattle.method.specs.Plan.{planOf}
 use Rattle.method.specs.Holding.{holds, lastEntry}
-use Rattle.method.specs.Plan.{deliverIn, deliverOf, ofSlot, planOf}
+use Rattle.method.specs.Refusals.{isUnknown, isStart, namesSlot, namesClient, isResend, isDelivery, slotEmpty, clientStopped, alreadyOpen, noneOpen, replicaOff, switchedSo}
+use Rattle.method.specs.Refusals.{opSpent, numberSpent}
 use Rattle.rack.specs.Places.{freeAt, roomOf, sentOf, recordOf}
-use Rattle.rack.specs.Sound.{allBelow, settingsFit, pairFits, bodyFits, messageFits, heldFits, workFits, owes, owedBy, owedIn, owed, wireFits, pairsFit, partiesFit, recordFits}
-use Rattle.rack.specs.Sound.{soundOf}
+use Rattle.rack.specs.Sound.{allBelow, settingsFit, pairFits, bodyFits, messageFits, heldFits, holdingFits, phaseFits, operationFits, workFits, owes, owedBy, owedIn, owed, wireFits}
+use Rattle.rack.specs.Sound.{pairsFit, partiesFit, recordFits, soundOf}
 use Rattle.method.specs.About.{clientIn, clientOf}
-use Rattle.rack.specs.Run.{freshRack, byte, eventOf, addressed, cleared, recorded, entriesIn, appliedOf, turn, runFrom}
-use Rattle.rack.specs.Refusals.{noted, freed, checked, decided}
+use Rattle.rack.specs.Run.{freshRack, byte, eventOf, addressed, cleared, recorded, entriesIn, appliedOf, turn, runFrom, runOf}
+use Rattle.rack.specs.Refusals.{recordFull, freed, wireFull, applies, leastFrom, refusalOf, decided}
 use Rattle.rack.specs.Looking.{inRack, slotOf, placeIn}
-use Rattle.rack.specs.Run.{runOf}
 use Rattle.rack.specs.Counts.{sentBy, deliveredBy, counted, countOver}
 use Rattle.sheet.specs.Sheet.{BytesSay, lawful, unlawful, Sheet}
 
@@ -54,10 +55,11 @@ module _ {bytes : List ℕ} {es : List Entry} (held : bytesHeld bytes ≡ entrie
 pub sheet : Sheet
 unfolding groupsOf alternatingOf bytesHeld heldFrom allOf distinct distinctFrom allBytes operations notes dec-lawful entryBytes enter before faultAfter standingAfter entryAt
     fieldsAt upTo andThen numberAt numberOf taken lastOf valueOf signedOf repeats askedAmong asksFor note partOf partFrom setBits hasReplica withReplica majority asksEnough
-    keepsEnough everyReplica within membersFrom ones countFrom firstFrom stampLess raised started startIn startOf askOf keepOf current keepsOf phaseEnds holds tellCounts tellIn
-    tellOf lastEntry keptCounts keptIn keptOf deliverIn deliverOf ofSlot planOf freeAt roomOf sentOf allBelow settingsFit pairFits bodyFits messageFits heldFits workFits owes owedBy
-    owedIn owed wireFits pairsFit partiesFit recordFits soundOf freshRack byte eventOf inRack slotOf clientIn placeIn clientOf noted freed checked decided addressed cleared
-    recorded entriesIn appliedOf turn runFrom runOf sentBy deliveredBy counted countOver recordOf
+    keepsEnough everyReplica within membersFrom ones countFrom firstFrom stampLess raised startOf askOf keepOf current chosen keepsOf holds tellCounts tellIn tellAt
+    tellOf lastEntry keptCounts keptIn keptAt keptOf deliverIn deliverOf ofSlot planOf isUnknown isStart namesSlot namesClient isResend isDelivery slotEmpty clientStopped
+    alreadyOpen noneOpen replicaOff switchedSo opSpent numberSpent freeAt roomOf sentOf allBelow settingsFit pairFits bodyFits messageFits heldFits holdingFits phaseFits
+    operationFits workFits owes owedBy owedIn owed wireFits pairsFit partiesFit recordFits soundOf freshRack byte eventOf inRack slotOf clientIn placeIn clientOf recordFull freed
+    wireFull applies leastFrom refusalOf decided addressed cleared recorded entriesIn appliedOf turn runFrom runOf sentBy deliveredBy counted countOver recordOf
 sheet =
     record {
       number-127 = of-127;
