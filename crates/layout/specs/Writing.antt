@@ -23,6 +23,7 @@ use Rattle.method.specs.declared.Work.the-variants.{Idle, Open}
 use Rattle.method.specs.declared.Operation.{Operation}
 use Rattle.method.specs.declared.Phase.{Phase}
 use Rattle.method.specs.declared.Phase.the-variants.{Asking, Keeping}
+use Rattle.method.specs.declared.Holding.{Holding}
 use Rattle.method.specs.declared.Holding.the-variants.{NoPair, Holds}
 use Rattle.method.specs.declared.Party.{Party}
 use Rattle.rack.specs.declared.Line.{Line}
@@ -46,10 +47,14 @@ unfoldable pub phaseWord : Phase → ℕ
 phaseWord (Asking held) = 1
 phaseWord (Keeping held) = 2
 
+-- what is held in the ask phase: nothing, or a pair
+unfoldable pub holdingWords : Holding → List ℕ
+holdingWords NoPair = noPair
+holdingWords (Holds p) = pairWords p
+
 -- what is held in a phase
 unfoldable pub heldWords : Phase → List ℕ
-heldWords (Asking NoPair) = noPair
-heldWords (Asking (Holds p)) = pairWords p
+heldWords (Asking held) = holdingWords held
 heldWords (Keeping p) = pairWords p
 
 -- an open operation but what it holds

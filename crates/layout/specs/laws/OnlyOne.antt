@@ -7,13 +7,11 @@ use native.Mathlib.Omega.{arith}
 use lib.ListN.{length}
 use borrow.Author.Tests.{eq-eqb, ne-eqb}
 use Rattle.record.specs.Entry.{clientLimit, cellLimit}
-use Rattle.method.specs.declared.Event.{Event}
-use Rattle.method.specs.declared.Decision.the-variants.{No}
 use Rattle.rack.specs.declared.Rack.{Rack}
 use Rattle.rack.specs.Places.{replicaLimit}
 use Rattle.rack.specs.Sound.{settingsFit, soundOf}
-use Rattle.rack.specs.Refusals.{applies, leastFrom, refusalOf, decided}
 use Rattle.rack.specs.Run.{madeOf, eventOf, ranOf, turn, runFrom, runOf}
+use Rattle.rack.specs.laws.Table.{decided-unsound}
 use Rattle.layout.specs.declared.WordsAnswer.{WordsAnswer}
 use Rattle.layout.specs.Layout.{wordCount}
 use Rattle.layout.specs.Reading.{rackOf}
@@ -49,11 +47,6 @@ pub not-stopped : (ws : List ℕ) (es : List ℕ) (a : WordsAnswer) → length w
 unfolding runOutcome leaves runOf runFrom
 not-stopped ws es a h p q = let e : a ≡ answerOf 0 0 = p ∙ rw (eq-eqb (length ws) wordCount h) in let r = ap (λ (k : WordsAnswer). k .refusal) e in omega arith
 
--- 2 is the first number that is looked at
-unsound-decided : (r : Rack) (e : Event) → soundOf r ≡ false → decided r e ≡ No 2
-unfolding decided refusalOf leastFrom applies
-unsound-decided r e s = rw s
-
 unsound-run : (r : Rack) (n : ℕ) (es : List ℕ) → soundOf r ≡ false → (n ≡ 0 → ⊥) → 4 ≤ length es → runOf r n es ≡ ranOf 0 2 r
 unfolding runOf runFrom turn
 unsound-run r zero es s l k = absurd (l refl)
@@ -61,7 +54,7 @@ unsound-run r (suc n) [] s l k = absurd (omega arith)
 unsound-run r (suc n) (a ∷ []) s l k = absurd (omega arith)
 unsound-run r (suc n) (a ∷ b ∷ []) s l k = absurd (omega arith)
 unsound-run r (suc n) (a ∷ b ∷ c ∷ []) s l k = absurd (omega arith)
-unsound-run r (suc n) (a ∷ b ∷ c ∷ d ∷ es) s l k = rw (unsound-decided r (eventOf a b c d) s)
+unsound-run r (suc n) (a ∷ b ∷ c ∷ d ∷ es) s l k = rw (decided-unsound r (eventOf a b c d) s)
 
 -- words of an unsound rack are refused 2 as soon as an event is tried, and stay as they were
 pub unsound-stays : (ws : List ℕ) (n : ℕ) (es : List ℕ) → length ws ≡ wordCount → soundOf (rackOf ws) ≡ false → (n ≡ 0 → ⊥) → 4 ≤ length es

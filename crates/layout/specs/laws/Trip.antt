@@ -33,7 +33,7 @@ use Rattle.record.specs.Entry.{clientLimit, cellLimit}
 use Rattle.layout.specs.Layout.{partySize, pairSize, slotSize, workSize, byteLimit, setLimit, opLimit, word}
 use Rattle.layout.specs.Reading.{byteOf, setOf, pairIn, goalOf, holdingOf, phaseOf, operationOf, operationIn, workIn, partyKnown, partyIn}
 use Rattle.layout.specs.Reading.{bodyOf, messageKnown, fullIn, heldOf, entryKnown, lineKnown, lineIn}
-use Rattle.layout.specs.Writing.{pairWords, openWords, phaseWord, heldWords, operationWords, workWords, flag, partyWords, bodyKind, bodyWords, slotWords}
+use Rattle.layout.specs.Writing.{pairWords, openWords, phaseWord, holdingWords, heldWords, operationWords, workWords, flag, partyWords, bodyKind, bodyWords, slotWords}
 use Rattle.layout.specs.laws.PlaceLaws.{Stands}
 use Rattle.layout.specs.laws.AsTold.{PhaseAsTold, AsTold}
 
@@ -238,7 +238,7 @@ set-same n h = rw (lt-ltb n setLimit h)
 -- what is held in a phase is read again where it goes by the set
 phase-again : (ws : List ℕ) (at set : ℕ) (ph : Phase) → phaseSmall ph → PhaseAsTold set ph → Stands ws at (heldWords ph)
     → phaseOf (phaseWord ph) set (pairIn ws at) ≡ ph
-unfolding phaseOf holdingOf phaseWord heldWords
+unfolding phaseOf holdingOf phaseWord heldWords holdingWords
 phase-again ws at set (Asking NoPair) h t s = rw (eq-eqb set 0 t)
 phase-again ws at set (Asking (Holds p)) h t s = rw (ne-eqb set 0 t, pair-again ws at p h s)
 phase-again ws at set (Keeping p) h t s = ap Keeping (pair-again ws at p h s)
@@ -279,7 +279,7 @@ open-long phase cell Read set = refl
 open-long phase cell (Write v) set = refl
 
 held-long : (ph : Phase) → length (heldWords ph) ≡ pairSize
-unfolding heldWords pairWords
+unfolding heldWords holdingWords pairWords
 held-long (Asking NoPair) = refl
 held-long (Asking (Holds p)) = refl
 held-long (Keeping p) = refl
