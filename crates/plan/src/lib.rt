@@ -1,21 +1,29 @@
-// What each event does, planned from the few things that it looks at: how many replicas there are, the power, the client, the pair and the slot.
+// What each event does, planned from the few things that it looks at: the quorums, the power, the client, the pair and the slot.
 ghost use mathlib.Core.Path.{_≡_};
 ghost use mathlib.Core.Bool.{true, false};
+ghost use mathlib.Core.Logic.{_≢_};
 ghost use Prim.Native.Nat.{_<_};
-ghost use Rattle.quorum.specs.Sets.{others};
-ghost use Rattle.method.specs.declared.Note.the-variants.{Nothing, Ended};
-ghost use Rattle.method.specs.declared.Work.the-variants.{Idle, Asking};
-ghost use Rattle.method.specs.Holding.{holds, lastEntry};
-ghost use Rattle.method.specs.Plan.{messageOf, activeParty, planned, usedUp, answered, started, startOf, askOf, keepOf, current, keepsOf, phaseEnds, tellCounts, tellIn};
-ghost use Rattle.method.specs.Plan.{lastOp, tellOf, keptCounts, keptIn, keptOf, deliverOf, copyOf, resendOf, noMessage, stopOf, powered, offOf, onOf, ofSlot, planOf};
+ghost use Rattle.stamps.specs.Stamp.{lastNumber};
+ghost use Rattle.method.specs.declared.Note.the-variants.{Ended};
+ghost use Rattle.method.specs.declared.Phase.the-variants.{Asking};
+ghost use Rattle.method.specs.declared.Work.the-variants.{Idle, Open};
+ghost use Rattle.method.specs.declared.Decision.the-variants.{Go};
+ghost use Rattle.method.specs.Holding.{holds, firstEntry, lastEntry};
+ghost use Rattle.method.specs.Plan.{messageOf, toReplicas, noMessage, activeParty, planned, usedUp, answered, powered, asked, asking, keeping, startOf, askOf, keepOf, current};
+ghost use Rattle.method.specs.Plan.{written, keepsOf, keptCounts, keptIn, keptAt, keptOf, copyOf, request, resendOf};
+ghost use Rattle.method.specs.Refusals.{lastOp, decisionOf};
+ghost use Rattle.method.specs.laws.InTurn.{startTurn, ifOn, phaseEnds, tellEnough, tellPhase, tellWork, tellTurn, deliverTurn, resendTurn, stopTurn, offTurn, onTurn, slotTurn};
 use method::Body;
 use method::Decision;
 use method::Event;
 use method::Goal;
+use method::Holding;
 use method::InSlot;
 use method::Message;
 use method::Note;
+use method::Operation;
 use method::Party;
+use method::Phase;
 use method::Plan;
 use method::Sight;
 use method::Work;
@@ -25,7 +33,6 @@ use record::Entry;
 use record::Replica;
 use stamps::Pair;
 use stamps::Stamp;
-use stamps::fresh_pair;
 use stamps::raise;
 
 fn message_of(client: Client, replica: Replica, cell: Cell, op: u16, body: Body) -> Message
@@ -38,6 +45,20 @@ fn message_of(client: Client, replica: Replica, cell: Cell, op: u16, body: Body)
         op: op,
         body: body,
     }
+}
+
+// A client's message to replicas: each of them is put in for replica 0.
+fn to_replicas(client: Client, cell: Cell, op: u16, body: Body) -> Message
+    ensures { λ r. ⌜ r ≡ toReplicas client cell op body ⌝ }
+{
+    message_of(client, Replica(0), cell, op, body)
+}
+
+// What a plan that sends nothing names.
+fn no_message() -> Message
+    ensures { λ r. ⌜ r ≡ noMessage ⌝ }
+{
+    to_replicas(Client(0), Cell(0), 0, Body::Ask)
 }
 
 // A client that isn't stopped.
@@ -60,7 +81,7 @@ fn planned(
     message: Message,
     to: u16,
 ) -> Decision
-    ensures { λ r. ⌜ r ≡ planned sight party clear note message to ⌝ }
+    ensures { λ r. ⌜ r ≡ Go (planned sight party clear note message to) ⌝ }
 {
     let pair = sight.pair;
     let plan = Plan {
@@ -77,7 +98,7 @@ fn planned(
 
 // The message is used up and nothing else happens.
 fn used_up(sight: Sight, m: Message) -> Decision
-    ensures { λ r. ⌜ r ≡ usedUp sight m ⌝ }
+    ensures { λ r. ⌜ r ≡ Go (usedUp sight m) ⌝ }
 {
     let party = sight.party;
     planned(sight, party, true, Note::Nothing, m, 0)
@@ -85,7 +106,7 @@ fn used_up(sight: Sight, m: Message) -> Decision
 
 // The replica's pair after the event, and its answer.
 fn answered(sight: Sight, after: Pair, m: Message, body: Body) -> Decision
-    ensures { λ r. ⌜ r ≡ answered sight after m body ⌝ }
+    ensures { λ r. ⌜ r ≡ Go (answered sight after m body) ⌝ }
 {
     let client = m.client;
     let replica = m.replica;
@@ -103,31 +124,67 @@ fn answered(sight: Sight, after: Pair, m: Message, body: Body) -> Decision
     Decision::Go(plan)
 }
 
-// The operation number rises by one, the record gets an entry, an ask goes to every replica.
-fn started(sight: Sight, op: u16, client: Client, cell: Cell, goal: Goal, entry: Entry) -> Decision
-    requires { ⌜ op < lastOp ⌝ }
-    ensures { λ r. ⌜ r ≡ started sight op client cell goal entry ⌝ }
+// An operation that has just started has an empty set and holds nothing.
+fn asked(cell: Cell, goal: Goal) -> Operation
+    ensures { λ r. ⌜ r ≡ asked cell goal ⌝ }
 {
-    let held = fresh_pair();
-    let work = Work::Asking {
+    Operation {
         cell: cell,
         goal: goal,
+        phase: Phase::Asking(Holding::NoPair),
         set: 0,
-        held: held,
-    };
+    }
+}
+
+// An operation in the ask phase, with this set and this pair held.
+fn asking(o: Operation, set: u16, held: Pair) -> Operation
+    ensures { λ r. ⌜ r ≡ asking o set held ⌝ }
+{
+    let cell = o.cell;
+    let goal = o.goal;
+    Operation {
+        cell: cell,
+        goal: goal,
+        phase: Phase::Asking(Holding::Holds(held)),
+        set: set,
+    }
+}
+
+// An operation in the keep phase, with this set and this pair held.
+fn keeping(o: Operation, set: u16, held: Pair) -> Operation
+    ensures { λ r. ⌜ r ≡ keeping o set held ⌝ }
+{
+    let cell = o.cell;
+    let goal = o.goal;
+    Operation {
+        cell: cell,
+        goal: goal,
+        phase: Phase::Keeping(held),
+        set: set,
+    }
+}
+
+// The operation number rises by one, the record gets an entry, an ask goes to every replica.
+fn started(sight: Sight, client: Client, cell: Cell, goal: Goal, entry: Entry) -> Decision
+    requires { ⌜ (sight .party .op < lastOp) × (entry ≡ firstEntry goal client cell) ⌝ }
+    ensures { λ r. ⌜ r ≡ Go (startOf sight client cell goal) ⌝ }
+{
+    let op = sight.party.op + 1;
+    let work = Work::Open(asked(cell, goal));
     planned(
         sight,
-        at_work(op + 1, work),
+        at_work(op, work),
         false,
         Note::Asked(entry),
-        message_of(client, Replica(0), cell, op + 1, Body::Ask),
-        quorum::every(sight.replicas),
+        to_replicas(client, cell, op, Body::Ask),
+        quorum::every(sight.quorums.replicas),
     )
 }
 
-// Start read, start write.
+// Start read, start write. The entry comes with the goal, so that the goal isn't looked at again.
 fn start(sight: Sight, client: Client, cell: Cell, goal: Goal, entry: Entry) -> Decision
-    ensures { λ r. ⌜ r ≡ startOf sight client cell goal entry ⌝ }
+    requires { ⌜ entry ≡ firstEntry goal client cell ⌝ }
+    ensures { λ r. ⌜ r ≡ startTurn sight client cell goal ⌝ }
 {
     let party = sight.party;
     if party.stopped {
@@ -135,31 +192,19 @@ fn start(sight: Sight, client: Client, cell: Cell, goal: Goal, entry: Entry) -> 
     }
     let work = party.work;
     match work {
-        Work::Asking {
-            cell: _,
-            goal: _,
-            set: _,
-            held: _,
-        } => Decision::No(6),
-        Work::Keeping {
-            cell: _,
-            goal: _,
-            set: _,
-            held: _,
-        } => Decision::No(6),
+        Work::Open(_) => Decision::No(6),
         Work::Idle => {
-            let op = party.op;
-            if op == Party::LAST_OP {
+            if party.op == Party::LAST_OP {
                 return Decision::No(10);
             }
-            started(sight, op, client, cell, goal, entry)
+            started(sight, client, cell, goal, entry)
         }
     }
 }
 
 // The replica answers tell with its pair for that cell.
 fn ask(sight: Sight, m: Message) -> Decision
-    ensures { λ r. ⌜ r ≡ askOf sight m ⌝ }
+    ensures { λ r. ⌜ r ≡ ifOn sight m (Go (askOf sight m)) ⌝ }
 {
     let replica = m.replica;
     let pair = sight.pair;
@@ -171,7 +216,7 @@ fn ask(sight: Sight, m: Message) -> Decision
 
 // The replica takes stamp and value if the stamp is greater than its own; it answers kept either way.
 fn keep(sight: Sight, m: Message, q: Pair) -> Decision
-    ensures { λ r. ⌜ r ≡ keepOf sight m q ⌝ }
+    ensures { λ r. ⌜ r ≡ ifOn sight m (Go (keepOf sight m q)) ⌝ }
 {
     let replica = m.replica;
     let pair = sight.pair;
@@ -192,77 +237,77 @@ fn current(party: Party, m: Message) -> bool
 }
 
 // The set is emptied and keep goes to every replica, with the pair that is then held.
-fn keeps(sight: Sight, m: Message, cell: Cell, goal: Goal, held: Pair) -> Decision
-    ensures { λ r. ⌜ r ≡ keepsOf sight m cell goal held ⌝ }
+fn keeps(sight: Sight, m: Message, o: Operation, held: Pair) -> Decision
+    ensures { λ r. ⌜ r ≡ Go (keepsOf sight m o held) ⌝ }
 {
     let client = m.client;
+    let cell = o.cell;
     let op = sight.party.op;
-    let work = Work::Keeping {
-        cell: cell,
-        goal: goal,
-        set: 0,
-        held: held,
-    };
+    let work = Work::Open(keeping(o, 0, held));
     planned(
         sight,
         at_work(op, work),
         true,
         Note::Nothing,
-        message_of(client, Replica(0), cell, op, Body::Keep(held)),
-        quorum::every(sight.replicas),
+        to_replicas(client, cell, op, Body::Keep(held)),
+        quorum::every(sight.quorums.replicas),
     )
 }
 
-// The ask phase ends: for a read with the held pair, for a write with the next number, the client's own rank and the new value.
-fn phase_ends(sight: Sight, m: Message, cell: Cell, goal: Goal, held: Pair) -> Decision
-    ensures { λ r. ⌜ r ≡ phaseEnds goal sight m cell held ⌝ }
+// The pair of a write: the next number, the client's own rank and the new value.
+fn written(client: Client, v: i32, held: Pair) -> Pair
+    requires { ⌜ held .stamp .number ≢ lastNumber ⌝ }
+    ensures { λ r. ⌜ r ≡ written client v held ⌝ }
 {
+    let s = held.stamp;
+    let next = s.number + 1;
+    let stamp = Stamp {
+        number: next,
+        rank: client.0,
+    };
+    Pair {
+        stamp: stamp,
+        value: v,
+    }
+}
+
+// The ask phase ends: for a read with the held pair, for a write with the pair that is written.
+fn phase_ends(sight: Sight, m: Message, o: Operation, held: Pair) -> Decision
+    ensures { λ r. ⌜ r ≡ phaseEnds (o .goal) sight m o held ⌝ }
+{
+    let goal = o.goal;
     match goal {
-        Goal::Read => keeps(sight, m, cell, goal, held),
+        Goal::Read => keeps(sight, m, o, held),
         Goal::Write(v) => {
             let s = held.stamp;
-            let number = s.number;
-            if number == Stamp::LAST {
+            if s.number == Stamp::LAST {
                 return Decision::No(12);
             }
             let client = m.client;
-            let next = number + 1;
-            let stamp = Stamp {
-                number: next,
-                rank: client.0,
-            };
-            let written = Pair {
-                stamp: stamp,
-                value: v,
-            };
-            keeps(sight, m, cell, goal, written)
+            keeps(sight, m, o, written(client, v, held))
         }
     }
 }
 
 // The first tell of a phase is held whole; a later one replaces it only with a greater stamp.
-fn hold(set: u16, held: Pair, q: Pair) -> Pair
-    ensures { λ r. ⌜ r ≡ holds set held q ⌝ }
+fn hold(holding: Holding, q: Pair) -> Pair
+    ensures { λ r. ⌜ r ≡ holds holding q ⌝ }
 {
-    if set == 0 {
-        return q;
+    match holding {
+        Holding::NoPair => q,
+        Holding::Holds(held) => raise(held, q),
     }
-    raise(held, q)
 }
 
 // A tell that counts: at a majority the phase ends in that same delivery.
-fn tell_counts(sight: Sight, m: Message, cell: Cell, goal: Goal, set: u16, held: Pair) -> Decision
-    ensures { λ r. ⌜ r ≡ tellCounts sight m cell goal set held ⌝ }
+fn tell_counts(sight: Sight, m: Message, o: Operation, set: u16, held: Pair) -> Decision
+    ensures { λ r. ⌜ r ≡ tellEnough sight m o set held ⌝ }
 {
-    if quorum::asks_enough(sight.replicas, set) {
-        return phase_ends(sight, m, cell, goal, held);
+    let quorums = sight.quorums;
+    if quorum::asks_enough(quorums, set) {
+        return phase_ends(sight, m, o, held);
     }
-    let work = Work::Asking {
-        cell: cell,
-        goal: goal,
-        set: set,
-        held: held,
-    };
+    let work = Work::Open(asking(o, set, held));
     planned(
         sight,
         at_work(sight.party.op, work),
@@ -274,54 +319,40 @@ fn tell_counts(sight: Sight, m: Message, cell: Cell, goal: Goal, set: u16, held:
 }
 
 // A tell in the ask phase counts if this replica isn't yet in the set.
-fn tell_asking(
-    sight: Sight,
-    m: Message,
-    cell: Cell,
-    goal: Goal,
-    set: u16,
-    held: Pair,
-    q: Pair,
-) -> Decision
-    ensures { λ r. ⌜ r ≡ tellIn (Asking cell goal set held) sight m q ⌝ }
+fn tell_asking(sight: Sight, m: Message, o: Operation, holding: Holding, q: Pair) -> Decision
+    ensures { λ r. ⌜ r ≡ tellPhase (Asking holding) sight m o q ⌝ }
 {
     let teller = m.replica;
+    let set = o.set;
     if quorum::has(set, teller) {
         return used_up(sight, m);
     }
-    tell_counts(
-        sight,
-        m,
-        cell,
-        goal,
-        quorum::with(set, teller),
-        hold(set, held, q),
-    )
+    tell_counts(sight, m, o, quorum::with(set, teller), hold(holding, q))
 }
 
 // A tell counts only in the ask phase.
+fn tell_open(sight: Sight, m: Message, o: Operation, q: Pair) -> Decision
+    ensures { λ r. ⌜ r ≡ tellPhase (o .phase) sight m o q ⌝ }
+{
+    let phase = o.phase;
+    match phase {
+        Phase::Keeping(_) => used_up(sight, m),
+        Phase::Asking(holding) => tell_asking(sight, m, o, holding, q),
+    }
+}
+
+// A tell counts only for an open operation.
 fn tell_in(work: Work, sight: Sight, m: Message, q: Pair) -> Decision
-    ensures { λ r. ⌜ r ≡ tellIn work sight m q ⌝ }
+    ensures { λ r. ⌜ r ≡ tellWork work sight m q ⌝ }
 {
     match work {
         Work::Idle => used_up(sight, m),
-        Work::Keeping {
-            cell: _,
-            goal: _,
-            set: _,
-            held: _,
-        } => used_up(sight, m),
-        Work::Asking {
-            cell,
-            goal,
-            set,
-            held,
-        } => tell_asking(sight, m, cell, goal, set, held, q),
+        Work::Open(o) => tell_open(sight, m, o, q),
     }
 }
 
 fn tell(sight: Sight, m: Message, q: Pair) -> Decision
-    ensures { λ r. ⌜ r ≡ tellOf sight m q ⌝ }
+    ensures { λ r. ⌜ r ≡ tellTurn sight m q ⌝ }
 {
     let party = sight.party;
     if current(party, m) {
@@ -343,7 +374,7 @@ fn last_entry(goal: Goal, client: Client, held: Pair) -> Entry
 
 // The operation ends: the record gets its entry, the client is idle.
 fn ended(sight: Sight, m: Message, goal: Goal, held: Pair) -> Decision
-    ensures { λ r. ⌜ r ≡ planned sight (activeParty (sight .party .op) Idle) true (Ended (lastEntry goal (m .client) held)) m 0 ⌝ }
+    ensures { λ r. ⌜ r ≡ Go (planned sight (activeParty (sight .party .op) Idle) true (Ended (lastEntry goal (m .client) held)) m 0) ⌝ }
 {
     let client = m.client;
     let entry = last_entry(goal, client, held);
@@ -358,18 +389,15 @@ fn ended(sight: Sight, m: Message, goal: Goal, held: Pair) -> Decision
 }
 
 // A kept that counts: at a majority the operation ends, the record gets its entry, the client is idle.
-fn kept_counts(sight: Sight, m: Message, cell: Cell, goal: Goal, set: u16, held: Pair) -> Decision
-    ensures { λ r. ⌜ r ≡ keptCounts sight m cell goal set held ⌝ }
+fn kept_counts(sight: Sight, m: Message, o: Operation, set: u16, held: Pair) -> Decision
+    ensures { λ r. ⌜ r ≡ Go (keptCounts sight m o set held) ⌝ }
 {
-    if quorum::keeps_enough(sight.replicas, set) {
+    let quorums = sight.quorums;
+    let goal = o.goal;
+    if quorum::keeps_enough(quorums, set) {
         return ended(sight, m, goal, held);
     }
-    let work = Work::Keeping {
-        cell: cell,
-        goal: goal,
-        set: set,
-        held: held,
-    };
+    let work = Work::Open(keeping(o, set, held));
     planned(
         sight,
         at_work(sight.party.op, work),
@@ -381,34 +409,35 @@ fn kept_counts(sight: Sight, m: Message, cell: Cell, goal: Goal, set: u16, held:
 }
 
 // A kept counts only in the keep phase, and if this replica isn't yet in the set.
-fn kept_in(work: Work, sight: Sight, m: Message) -> Decision
-    ensures { λ r. ⌜ r ≡ keptIn work sight m ⌝ }
+fn kept_open(sight: Sight, m: Message, o: Operation) -> Decision
+    ensures { λ r. ⌜ r ≡ Go (keptIn (o .phase) sight m o) ⌝ }
 {
-    match work {
-        Work::Idle => used_up(sight, m),
-        Work::Asking {
-            cell: _,
-            goal: _,
-            set: _,
-            held: _,
-        } => used_up(sight, m),
-        Work::Keeping {
-            cell,
-            goal,
-            set,
-            held,
-        } => {
+    let phase = o.phase;
+    match phase {
+        Phase::Asking(_) => used_up(sight, m),
+        Phase::Keeping(held) => {
             let keeper = m.replica;
+            let set = o.set;
             if quorum::has(set, keeper) {
                 return used_up(sight, m);
             }
-            kept_counts(sight, m, cell, goal, quorum::with(set, keeper), held)
+            kept_counts(sight, m, o, quorum::with(set, keeper), held)
         }
     }
 }
 
+// A kept counts only for an open operation.
+fn kept_in(work: Work, sight: Sight, m: Message) -> Decision
+    ensures { λ r. ⌜ r ≡ Go (keptAt work sight m) ⌝ }
+{
+    match work {
+        Work::Idle => used_up(sight, m),
+        Work::Open(o) => kept_open(sight, m, o),
+    }
+}
+
 fn kept(sight: Sight, m: Message) -> Decision
-    ensures { λ r. ⌜ r ≡ keptOf sight m ⌝ }
+    ensures { λ r. ⌜ r ≡ Go (keptOf sight m) ⌝ }
 {
     let party = sight.party;
     if current(party, m) {
@@ -420,7 +449,7 @@ fn kept(sight: Sight, m: Message) -> Decision
 
 // The message is taken out, then acted on.
 fn deliver(sight: Sight, m: Message) -> Decision
-    ensures { λ r. ⌜ r ≡ deliverOf sight m ⌝ }
+    ensures { λ r. ⌜ r ≡ deliverTurn (m .body) sight m ⌝ }
 {
     let body = m.body;
     match body {
@@ -433,7 +462,7 @@ fn deliver(sight: Sight, m: Message) -> Decision
 
 // The same message also in the lowest free slot.
 fn copy(sight: Sight, m: Message) -> Decision
-    ensures { λ r. ⌜ r ≡ copyOf sight m ⌝ }
+    ensures { λ r. ⌜ r ≡ Go (copyOf sight m) ⌝ }
 {
     let replica = m.replica;
     let party = sight.party;
@@ -447,24 +476,35 @@ fn copy(sight: Sight, m: Message) -> Decision
     )
 }
 
-// The present request, once more to each replica not in the set.
-fn again(sight: Sight, client: Client, cell: Cell, set: u16, body: Body) -> Decision
-    ensures { λ r. ⌜ r ≡ planned sight (sight .party) false Nothing (messageOf client (record { 0 = 0 }) cell (sight .party .op) body) (others (sight .replicas) set) ⌝ }
+// The present request: an ask, or a keep with the pair that is held.
+fn request(phase: Phase) -> Body
+    ensures { λ r. ⌜ r ≡ request phase ⌝ }
+{
+    match phase {
+        Phase::Asking(_) => Body::Ask,
+        Phase::Keeping(held) => Body::Keep(held),
+    }
+}
+
+// The present request, once more to each replica not in the set. The stamp isn't chosen anew.
+fn again(sight: Sight, client: Client, o: Operation) -> Decision
+    ensures { λ r. ⌜ r ≡ Go (resendOf (Open o) sight client) ⌝ }
 {
     let party = sight.party;
+    let cell = o.cell;
+    let phase = o.phase;
     planned(
         sight,
         party,
         false,
         Note::Nothing,
-        message_of(client, Replica(0), cell, sight.party.op, body),
-        quorum::others(sight.replicas, set),
+        to_replicas(client, cell, sight.party.op, request(phase)),
+        quorum::others(sight.quorums.replicas, o.set),
     )
 }
 
-// Resend: the stamp isn't chosen anew.
 fn resend(sight: Sight, client: Client) -> Decision
-    ensures { λ r. ⌜ r ≡ resendOf sight client ⌝ }
+    ensures { λ r. ⌜ r ≡ resendTurn sight client ⌝ }
 {
     let party = sight.party;
     if party.stopped {
@@ -473,31 +513,13 @@ fn resend(sight: Sight, client: Client) -> Decision
     let work = party.work;
     match work {
         Work::Idle => Decision::No(7),
-        Work::Asking {
-            cell,
-            goal: _,
-            set,
-            held: _,
-        } => again(sight, client, cell, set, Body::Ask),
-        Work::Keeping {
-            cell,
-            goal: _,
-            set,
-            held,
-        } => again(sight, client, cell, set, Body::Keep(held)),
+        Work::Open(o) => again(sight, client, o),
     }
-}
-
-// What a plan that sends nothing names.
-fn no_message() -> Message
-    ensures { λ r. ⌜ r ≡ noMessage ⌝ }
-{
-    message_of(Client(0), Replica(0), Cell(0), 0, Body::Ask)
 }
 
 // It never acts again; its operation stays open.
 fn stop(sight: Sight) -> Decision
-    ensures { λ r. ⌜ r ≡ stopOf sight ⌝ }
+    ensures { λ r. ⌜ r ≡ stopTurn sight ⌝ }
 {
     let party = sight.party;
     if party.stopped {
@@ -514,7 +536,7 @@ fn stop(sight: Sight) -> Decision
 
 // A replica is switched: its pairs stay.
 fn powered(sight: Sight, after: u16) -> Decision
-    ensures { λ r. ⌜ r ≡ powered sight after ⌝ }
+    ensures { λ r. ⌜ r ≡ Go (powered sight after) ⌝ }
 {
     let party = sight.party;
     let pair = sight.pair;
@@ -531,7 +553,7 @@ fn powered(sight: Sight, after: u16) -> Decision
 }
 
 fn off(sight: Sight, replica: Replica) -> Decision
-    ensures { λ r. ⌜ r ≡ offOf sight replica ⌝ }
+    ensures { λ r. ⌜ r ≡ offTurn sight replica ⌝ }
 {
     if quorum::has(sight.power, replica) {
         return powered(sight, quorum::without(sight.power, replica));
@@ -540,7 +562,7 @@ fn off(sight: Sight, replica: Replica) -> Decision
 }
 
 fn on(sight: Sight, replica: Replica) -> Decision
-    ensures { λ r. ⌜ r ≡ onOf sight replica ⌝ }
+    ensures { λ r. ⌜ r ≡ onTurn sight replica ⌝ }
 {
     if quorum::has(sight.power, replica) {
         return Decision::No(9);
@@ -550,7 +572,7 @@ fn on(sight: Sight, replica: Replica) -> Decision
 
 // What a slot holds is delivered.
 fn deliver_held(sight: Sight, held: InSlot) -> Decision
-    ensures { λ r. ⌜ r ≡ ofSlot (deliverOf sight) held ⌝ }
+    ensures { λ r. ⌜ r ≡ slotTurn (λ m. deliverTurn (m .body) sight m) held ⌝ }
 {
     match held {
         InSlot::Empty => Decision::No(4),
@@ -560,7 +582,7 @@ fn deliver_held(sight: Sight, held: InSlot) -> Decision
 
 // What a slot holds is lost.
 fn lose_held(sight: Sight, held: InSlot) -> Decision
-    ensures { λ r. ⌜ r ≡ ofSlot (usedUp sight) held ⌝ }
+    ensures { λ r. ⌜ r ≡ slotTurn (λ m. Go (usedUp sight m)) held ⌝ }
 {
     match held {
         InSlot::Empty => Decision::No(4),
@@ -570,7 +592,7 @@ fn lose_held(sight: Sight, held: InSlot) -> Decision
 
 // What a slot holds is copied.
 fn copy_held(sight: Sight, held: InSlot) -> Decision
-    ensures { λ r. ⌜ r ≡ ofSlot (copyOf sight) held ⌝ }
+    ensures { λ r. ⌜ r ≡ slotTurn (λ m. Go (copyOf sight m)) held ⌝ }
 {
     match held {
         InSlot::Empty => Decision::No(4),
@@ -578,9 +600,9 @@ fn copy_held(sight: Sight, held: InSlot) -> Decision
     }
 }
 
-// The plan for an event, with what its slot holds.
+// What is decided of an event, with what its slot holds: a refusal or its plan.
 pub fn plan(sight: Sight, held: InSlot, event: Event) -> Decision
-    ensures { λ r. ⌜ r ≡ planOf sight held event ⌝ }
+    ensures { λ r. ⌜ r ≡ decisionOf sight held event ⌝ }
 {
     match event {
         Event::StartRead(client, cell) => start(

@@ -3,6 +3,7 @@ use Prim.Native.Nat.{ℕ, _+_, _*_, _/_, _%_}
 use mathlib.Core.Path.{_≡_}
 use mathlib.Core.Bool.{true}
 use native.Mathlib.Omega.{arith}
+use Rattle.quorum.specs.declared.Quorums.{Quorums}
 use Rattle.quorum.specs.Sets.{withReplica, asksEnough, keepsEnough, within}
 use Rattle.quorum.specs.laws.SetLaws.{with-new, meet}
 use Rattle.stamps.specs.StampOrder.{Rank}
@@ -10,17 +11,17 @@ use Rattle.protocol.specs.View.{Setting}
 use Rattle.promise.specs.Has.{Has}
 use Rattle.promise.specs.laws.Meeting.{none, met}
 
--- sets of n replicas and majorities of them; a stamp is the number 256 * number + rank
-abbrev pub settingOf : ℕ → Setting
-settingOf n =
+-- sets of replicas and quorums of them; a stamp is the number 256 * number + rank
+abbrev pub settingOf : Quorums → Setting
+settingOf q =
     record {
       Has = Has;
       join = withReplica;
       none = none;
       joined = with-new;
-      AskEnough = λ s. (within n s ≡ true) × (asksEnough n s ≡ true);
-      KeepEnough = λ s. (within n s ≡ true) × (keepsEnough n s ≡ true);
-      meet = met n;
+      AskEnough = λ s. (within (q .replicas) s ≡ true) × (asksEnough q s ≡ true);
+      KeepEnough = λ s. (within (q .replicas) s ≡ true) × (keepsEnough q s ≡ true);
+      meet = met q;
       Rank = Rank;
       next = λ s c. (s / 256 + 1) * 256 + c;
       owner = λ s. s % 256;

@@ -2,7 +2,8 @@
 -- entry, as in the record.
 use Prim.Native.Nat.{ℕ, _≤_, _<_}
 use Rattle.rack.specs.declared.Rack.{Rack}
-use Rattle.protocol.specs.View.{View, Setting, Pair as Seen, Op}
+use Rattle.rack.specs.Sound.{quorumsOf}
+use Rattle.protocol.specs.View.{View, Setting, Pair as Seen, Op, zeroPair}
 use mathlib.Core.Path.{_≡_}
 use mathlib.Core.Logic.{_≢_}
 use mathlib.Core.Bool.{Bool, true, false, cond}
@@ -13,7 +14,7 @@ use lib.ListN.{length}
 use Rattle.record.specs.declared.Cell.{Cell}
 use Rattle.record.specs.Entry.{clientLimit}
 use Rattle.record.specs.Record.{entryLimit}
-use Rattle.law.specs.Operation.{Op as Operation, operations}
+use Rattle.law.specs.Operation.{Op as Recorded, operations}
 use Rattle.law.specs.Order.{In}
 use Rattle.stamps.specs.declared.Pair.{Pair}
 use Rattle.stamps.specs.StampOrder.{stampOf}
@@ -25,7 +26,12 @@ use Rattle.method.specs.declared.InSlot.the-variants.{Empty, Full}
 use Rattle.method.specs.declared.Goal.{Goal}
 use Rattle.method.specs.declared.Goal.the-variants.{Read, Write}
 use Rattle.method.specs.declared.Work.{Work}
-use Rattle.method.specs.declared.Work.the-variants.{Idle, Asking, Keeping}
+use Rattle.method.specs.declared.Work.the-variants.{Idle, Open}
+use Rattle.method.specs.declared.Holding.{Holding as Held}
+use Rattle.method.specs.declared.Holding.the-variants.{NoPair, Holds}
+use Rattle.method.specs.declared.Phase.{Phase}
+use Rattle.method.specs.declared.Phase.the-variants.{Asking, Keeping}
+use Rattle.method.specs.declared.Operation.{Operation}
 use Rattle.rack.specs.Places.{pairLimit, partyAt, pairAt, heldAt, recordOf}
 use Rattle.protocol.specs.Message.{Tell as Told, Keep as Chose, Kept as Has}
 use Rattle.protocol.specs.Move.{Reached}
@@ -56,9 +62,19 @@ openWith phase o client cell goal set held =
       stop = 0;
     }
 
--- the same with the rack's pair held
-abbrev pub openAt : ℕ → ℕ → ℕ → Cell → Goal → ℕ → Pair → Op
-openAt phase o client cell goal set held = openWith phase o client cell goal set (pairOf held)
+-- what is held in the ask phase; the view's zero pair where nothing is
+abbrev pub heldIn : Held → Seen
+heldIn NoPair = zeroPair
+heldIn (Holds p) = pairOf p
+
+-- operation o of a client as the view sees what is open: its phase is 1 while it asks and 2 while it keeps
+abbrev pub openPhase : Phase → ℕ → ℕ → Operation → Op
+openPhase (Asking held) o client x = openWith 1 o client (x .cell) (x .goal) (x .set) (heldIn held)
+openPhase (Keeping held) o client x = openWith 2 o client (x .cell) (x .goal) (x .set) (pairOf held)
+
+-- the same, by the phase that it is in
+abbrev pub openAt : ℕ → ℕ → Operation → Op
+openAt o client x = openPhase (x .phase) o client x
 
 -- operation i has ended if it is client c's and has begun
 abbrev pub Past : (ℕ → Op) → ℕ → ℕ → Type 0
@@ -71,8 +87,7 @@ Stands ops c o x = (ops o ≡ x) × ((i : ℕ) → i ≢ o → Past ops c i)
 -- client c is at this work, with its operation o
 abbrev pub At : (ℕ → Op) → ℕ → ℕ → Work → Type 0
 At ops c o Idle = (i : ℕ) → Past ops c i
-At ops c o (Asking cell goal set held) = Stands ops c o (openAt 1 o c cell goal set held)
-At ops c o (Keeping cell goal set held) = Stands ops c o (openAt 2 o c cell goal set held)
+At ops c o (Open x) = Stands ops c o (openAt o c x)
 
 -- what a message between the client of operation o and replica k says, about cell x
 abbrev pub Means : Setting → View → ℕ → ℕ → ℕ → Body → Type 0
@@ -96,7 +111,7 @@ abbrev pub opOf : Rack → ℕ → ℕ
 opOf r c = partyAt r c .op
 
 -- operation i as the record shows it
-abbrev pub shown : ℕ → Op → Operation
+abbrev pub shown : ℕ → Op → Recorded
 shown i x =
     record {
       number = i;
@@ -110,9 +125,9 @@ shown i x =
     }
 
 -- the operations of a record are those of the view that have begun
-pub record Book (ops : ℕ → Op) (s : List Operation) : Type 0 where
-  pub begun : (x : Operation) → In x s → 1 ≤ ops (x .number) .phase
-  pub known : (x : Operation) → In x s → x ≡ shown (x .number) (ops (x .number))
+pub record Book (ops : ℕ → Op) (s : List Recorded) : Type 0 where
+  pub begun : (x : Recorded) → In x s → 1 ≤ ops (x .number) .phase
+  pub known : (x : Recorded) → In x s → x ≡ shown (x .number) (ops (x .number))
   pub every : (i : ℕ) → 1 ≤ ops i .phase → In (shown i (ops i)) s
 
 -- the arrays have their lengths
@@ -125,7 +140,7 @@ pub record Long (r : Rack) : Type 0 where
 pub record Tie (r : Rack) (v : View) (name : ℕ → ℕ → ℕ) : Type 0 where
   pub long : Long r
   -- legal moves lead to the view
-  pub reached : Reached (settingOf (r .settings .replicas)) v
+  pub reached : Reached (settingOf (quorumsOf (r .settings))) v
   -- its time is the number of entries
   pub now : v .now ≡ r .count
   -- every client is at what its operation is at
@@ -133,7 +148,7 @@ pub record Tie (r : Rack) (v : View) (name : ℕ → ℕ → ℕ) : Type 0 where
   -- every pair is the view's
   pub pairs : (k x : ℕ) → k < r .settings .replicas → x < r .settings .cells → v .pair k x ≡ pairOf (pairAt r k x)
   -- every message on the wire means something true
-  pub wire : (i : ℕ) → Holding (OnWire (settingOf (r .settings .replicas)) v name (opOf r)) (heldAt r i)
+  pub wire : (i : ℕ) → Holding (OnWire (settingOf (quorumsOf (r .settings))) v name (opOf r)) (heldAt r i)
   -- the record shows the operations
   pub book : Book (v .ops) (operations (recordOf r))
 
@@ -142,13 +157,3 @@ pub record Tied (r : Rack) : Type 0 where
   pub view : View
   pub name : ℕ → ℕ → ℕ
   pub tie : Tie r view name
-
--- ---- pairs and operations
-
--- ---- clients
-
--- ---- messages
-
--- ---- the record
-
--- ---- the tie

@@ -33,7 +33,7 @@ use Rattle.method.specs.declared.Plan.{Plan}
 use Rattle.method.specs.declared.Decision.{Decision}
 use Rattle.method.specs.declared.Decision.the-variants.{No, Go}
 use Rattle.method.specs.Holding.{holds}
-use Rattle.method.specs.Plan.{usedUp, keepOf, askOf, current, written, chosen, keepsOf, tellCounts, tellIn, tellAt, tellOf, keptCounts, keptIn, keptAt, keptOf}
+use Rattle.method.specs.Plan.{usedUp, keepOf, current, written, chosen, keepsOf, tellCounts, tellIn, tellAt, tellOf, keptCounts, keptIn, keptAt, keptOf}
 use Rattle.method.specs.Plan.{deliverIn, deliverOf, resendOf, ofSlot, planOf}
 use Rattle.method.specs.Refusals.{isUnknown, isStart, namesSlot, namesClient, isResend, isDelivery, isOpen, toReplica, spentIn, spentAt, spentBy, slotEmpty, clientStopped}
 use Rattle.method.specs.Refusals.{alreadyOpen, noneOpen, replicaOff, switchedSo, opSpent, numberSpent, decisionOf}
@@ -106,13 +106,7 @@ pub last-number-is-refused : (s : Sight) (m : Message) (t : Heard s m) (slot : �
     → t .operation .goal ≡ Write v → heardPair t .stamp .number ≡ lastNumber → decisionOf s (Full m) (Deliver slot) ≡ No 12
 unfolding asksEnough majority
 last-number-is-refused s m t slot v most w e =
-    rw (
-      tell-counts s m t slot,
-      t .new,
-      lt-ltb (s .quorums .replicas) (2 * countOf (heardSet t)) most,
-      w,
-      eq-eqb (heardPair t .stamp .number) lastNumber e,
-    )
+    rw (tell-counts s m t slot, t .new, lt-ltb (s .quorums .replicas) (2 * countOf (heardSet t)) most, w, e) refl
 
 -- what holds of the plan of a tell that counts holds of it where it isn't refused
 tell-leaves : (P : Plan → Type 0) (s : Sight) (m : Message) (t : Heard s m) (slot : ℕ) → P (tellCounts s m (t .operation) (heardSet t) (heardPair t))
@@ -197,48 +191,47 @@ written-greatest client v held told q g =
       whole = λ r. absurd (let z : _≡_ {A = ℕ} 0 1 = cc in omega arith);
     }
 
--- the pair that is held after a tell
-told-greatest : (goal : Goal) (held : Holding) (told : Pair) → Greatest goal held told (Holds (holds held told))
-unfolding holds raised
-told-greatest goal NoPair told =
-    record {
-      pair = told;
-      holds = refl;
-      now = not-below-itself (told .stamp);
-      before = λ h b. absurd (let z : _≡_ {A = ℕ} 0 1 = cc in omega arith);
-      whole = λ r. inl refl;
-    }
-told-greatest goal (Holds held) told =
-    either (λ (q : Pair). Greatest goal (Holds held) told (Holds q)) (stampLess (held .stamp) (told .stamp)) told held
-    (λ l. record {
-      pair = told;
-      holds = refl;
-      now = not-below-itself (told .stamp);
-      before = λ h b. let e : held ≡ h = cc in rw (sym e) (not-both-below (held .stamp) (told .stamp) l);
-      whole = λ r. inl refl;
-    })
-    (λ l. record {
-      pair = held;
-      holds = refl;
-      now = l;
-      before = λ h b. let e : held ≡ h = cc in rw (sym e) (not-below-itself (held .stamp));
-      whole = λ r. inr refl;
-    })
-
 -- after a tell that counts the client holds the greatest pair, not the replica's own nor the one told last: no stamp told so far is above the one held
 pub greatest-is-held : (s : Sight) (m : Message) (t : Heard s m) (slot : ℕ)
     → IfDone (decisionOf s (Full m) (Deliver slot)) (λ (p : Plan). Greatest (t .operation .goal) (t .held) (t .told) (heldBy (p .party .work)))
-unfolding tellCounts keepsOf chosen
+unfolding tellCounts keepsOf chosen holds raised
 greatest-is-held s m t slot =
-    tell-leaves Left s m t slot (either Left (asksEnough (s .quorums) (heardSet t)) (keepsOf s m (t .operation) (chosen (t .operation .goal) (m .client) (heardPair t))) _
-    (λ e. ends (t .operation .goal)) (λ e. told-greatest (t .operation .goal) (t .held) (t .told)))
+    tell-leaves Left s m t slot
+    (either Left (asksEnough (s .quorums) (heardSet t)) (keepsOf s m (t .operation) (chosen (t .operation .goal) (m .client) (heardPair t))) _
+    (λ e. ends (t .operation .goal)) (λ e. goes-on (t .operation .goal) (t .held)))
   where
     Left : Plan → Type 0
     Left p = Greatest (t .operation .goal) (t .held) (t .told) (heldBy (p .party .work))
 
+    goes-on : (goal : Goal) (held : Holding) → Greatest goal held (t .told) (Holds (holds held (t .told)))
+    goes-on goal NoPair =
+        record {
+          pair = t .told;
+          holds = refl;
+          now = not-below-itself (t .told .stamp);
+          before = λ h b. absurd (let z : _≡_ {A = ℕ} 0 1 = cc in omega arith);
+          whole = λ r. inl refl;
+        }
+    goes-on goal (Holds held) =
+        either (λ (q : Pair). Greatest goal (Holds held) (t .told) (Holds q)) (stampLess (held .stamp) (t .told .stamp)) (t .told) held
+        (λ l. record {
+          pair = t .told;
+          holds = refl;
+          now = not-below-itself (t .told .stamp);
+          before = λ h b. let e : held ≡ h = cc in rw (sym e) (not-both-below (held .stamp) (t .told .stamp) l);
+          whole = λ r. inl refl;
+        })
+        (λ l. record {
+          pair = held;
+          holds = refl;
+          now = l;
+          before = λ h b. let e : held ≡ h = cc in rw (sym e) (not-below-itself (held .stamp));
+          whole = λ r. inr refl;
+        })
+
     ends : (goal : Goal) → Greatest goal (t .held) (t .told) (Holds (chosen goal (m .client) (heardPair t)))
-    ends Read = told-greatest Read (t .held) (t .told)
-    ends (Write v) = written-greatest (m .client) v (t .held) (t .told) (heardPair t) (told-greatest (Write v) (t .held) (t .told))
+    ends Read = goes-on Read (t .held)
+    ends (Write v) = written-greatest (m .client) v (t .held) (t .told) (heardPair t) (goes-on (Write v) (t .held))
 
 -- ---- one more answer of the same replica
 

@@ -1,4 +1,4 @@
--- Every plan is of the method: what is done of an event is what the method says of its kind. This file alone goes through the text of plans.
+-- Every plan is of the method: what is done of an event is what the method says of its kind. What stands on plans goes by this, and not by their text.
 use Prim.Native.Nat.{ℕ}
 use mathlib.Core.Path.{_≡_, refl, sym, _∙_, subst}
 use mathlib.Core.Logic.{_⊎_, inl, inr}

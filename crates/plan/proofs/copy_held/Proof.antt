@@ -1,6 +1,6 @@
 -- `plan::copy_held` meets its contract.
 use borrow.Author.Needs.{needs}
-use Rattle.method.specs.Plan.{ofSlot}
+use Rattle.method.specs.laws.InTurn.{slotTurn}
 use Rattle.plan.proofs.copy_held.Statement.{statement}
 use Rattle.plan.proofs.copy_held.Tie as tie
 
@@ -14,11 +14,11 @@ copy-requires : tie.Need-copy-requires
 copy-requires c κs = search needs
 
 returns : tie.Need-returns
-unfolding ofSlot
+unfolding slotTurn
 returns c = rw (c .enum-told .given .1)
 
 returns-2 : tie.Need-returns-2
-unfolding ofSlot
+unfolding slotTurn
 returns-2 c = rw (c .copy .ensures, c .before .before .held .given .1)
 
 pub copy-held-spec : {M : Type 1} → statement M

@@ -1,6 +1,6 @@
 -- `plan::deliver` meets its contract.
 use borrow.Author.Needs.{needs}
-use Rattle.method.specs.Plan.{deliverIn, deliverOf}
+use Rattle.method.specs.laws.InTurn.{deliverTurn}
 use Rattle.plan.proofs.deliver.Statement.{statement}
 use Rattle.plan.proofs.deliver.Tie as tie
 
@@ -29,19 +29,19 @@ kept-requires : tie.Need-kept-requires
 kept-requires c κs = search needs
 
 returns : tie.Need-returns
-unfolding deliverOf deliverIn
+unfolding deliverTurn
 returns c = rw (c .ask .ensures, c .before .enum-told .given .1)
 
 returns-2 : tie.Need-returns-2
-unfolding deliverOf deliverIn
+unfolding deliverTurn
 returns-2 c = rw (c .tell .ensures, c .before .before .body .given .1)
 
 returns-3 : tie.Need-returns-3
-unfolding deliverOf deliverIn
+unfolding deliverTurn
 returns-3 c = rw (c .keep .ensures, c .before .before .body2 .given .1)
 
 returns-4 : tie.Need-returns-4
-unfolding deliverOf deliverIn
+unfolding deliverTurn
 returns-4 c = rw (c .kept .ensures, c .before .enum-told2 .given .1)
 
 pub deliver-spec : {M : Type 1} → statement M

@@ -2,6 +2,7 @@
 use mathlib.Core.Path.{sym, _∙_}
 use borrow.Author.Needs.{needs}
 use Rattle.method.specs.Plan.{keepOf}
+use Rattle.method.specs.laws.InTurn.{ifOn}
 use Rattle.plan.proofs.keep.Statement.{statement}
 use Rattle.plan.proofs.keep.Tie as tie
 
@@ -15,11 +16,11 @@ answered-requires : tie.Need-answered-requires
 answered-requires c κs = search needs
 
 returns : tie.Need-returns
-unfolding keepOf
+unfolding ifOn keepOf
 returns c = rw (c .answered .ensures, c .before .raise .ensures, sym (c .before .before .before .has .ensures) ∙ c .before .before .if1 .taken)
 
 returns-2 : tie.Need-returns-2
-unfolding keepOf
+unfolding ifOn keepOf
 returns-2 c = rw (sym (c .before .has .ensures) ∙ c .if1 .left)
 
 pub keep-spec : {M : Type 1} → statement M

@@ -15,6 +15,9 @@ returns : tie.Need-returns
 unfolding keptCounts
 returns c = rw (c .ended .ensures, sym (c .before .before .keeps-enough .ensures) ∙ c .before .if1 .taken)
 
+keeping-requires : tie.Need-keeping-requires
+keeping-requires c κs = search needs
+
 at-work-requires : tie.Need-at-work-requires
 at-work-requires c κs = search needs
 
@@ -23,7 +26,12 @@ planned-requires c κs = search needs
 
 returns-2 : tie.Need-returns-2
 unfolding keptCounts
-returns-2 c = rw (c .planned .ensures, c .before .at-work .ensures, sym (c .before .before .before .keeps-enough .ensures) ∙ c .before .before .if1 .left)
+returns-2 c = rw (
+  c .planned .ensures,
+  c .before .at-work .ensures,
+  c .before .before .keeping .ensures,
+  sym (c .before .before .before .before .keeps-enough .ensures) ∙ c .before .before .before .if1 .left,
+)
 
 pub kept-counts-spec : {M : Type 1} → statement M
 kept-counts-spec =
@@ -32,6 +40,7 @@ kept-counts-spec =
     keeps-enough-requires
     ended-requires
     returns
+    keeping-requires
     at-work-requires
     planned-requires
     returns-2)

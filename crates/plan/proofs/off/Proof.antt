@@ -1,7 +1,7 @@
 -- `plan::off` meets its contract.
 use mathlib.Core.Path.{sym, _∙_}
 use borrow.Author.Needs.{needs}
-use Rattle.method.specs.Plan.{offOf}
+use Rattle.method.specs.laws.InTurn.{offTurn}
 use Rattle.plan.proofs.off.Statement.{statement}
 use Rattle.plan.proofs.off.Tie as tie
 
@@ -15,11 +15,11 @@ powered-requires : tie.Need-powered-requires
 powered-requires c κs = search needs
 
 returns : tie.Need-returns
-unfolding offOf
+unfolding offTurn
 returns c = rw (c .powered .ensures, c .before .without .ensures, sym (c .before .before .before .has .ensures) ∙ c .before .before .if1 .taken)
 
 returns-2 : tie.Need-returns-2
-unfolding offOf
+unfolding offTurn
 returns-2 c = rw (sym (c .before .has .ensures) ∙ c .if1 .left)
 
 pub off-spec : {M : Type 1} → statement M

@@ -1,6 +1,5 @@
 -- `plan::powered` meets its contract.
 use borrow.Author.Needs.{needs}
-use Rattle.method.specs.Plan.{powered}
 use Rattle.plan.proofs.powered.Statement.{statement}
 use Rattle.plan.proofs.powered.Tie as tie
 
@@ -8,7 +7,6 @@ no-message-requires : tie.Need-no-message-requires
 no-message-requires c κs = search needs
 
 returns : tie.Need-returns
-unfolding powered
 returns c = rw (c .no-message .ensures)
 
 pub powered-spec : {M : Type 1} → statement M

@@ -6,6 +6,7 @@ use Rattle.quorum.specs.Sets.{membersOf}
 use Rattle.law.specs.Operation.{operations}
 use Rattle.law.specs.Order.{In}
 use Rattle.rack.specs.declared.Rack.{Rack}
+use Rattle.rack.specs.Sound.{quorumsOf}
 use Rattle.method.specs.declared.Event.{Event}
 use Rattle.method.specs.declared.Note.the-variants.{Nothing}
 use Rattle.method.specs.declared.Plan.{Plan}
@@ -25,7 +26,7 @@ use Rattle.promise.specs.laws.Moves.{Moved}
 module _ (r : Rack) (e : Event) (p : Plan) (v : View) (name : ℕ → ℕ → ℕ) (t : Tie r v name) where
   -- the setting of this rack: its sets of replicas, its majorities and its stamps
   abbrev S : Setting
-  S = settingOf (r .settings .replicas)
+  S = settingOf (quorumsOf (r .settings))
 
   -- the client that the event is about
   abbrev client : ℕ

@@ -5,9 +5,21 @@ use mathlib.Core.Logic.{_≢_}
 use native.Mathlib.Omega.{arith}
 use native.Mathlib.Decide.{ℕ-discrete}
 use Rattle.method.specs.declared.Work.{Work}
-use Rattle.method.specs.declared.Work.the-variants.{Idle, Asking, Keeping}
+use Rattle.method.specs.declared.Work.the-variants.{Idle, Open}
+use Rattle.method.specs.declared.Phase.{Phase}
+use Rattle.method.specs.declared.Phase.the-variants.{Asking, Keeping}
+use Rattle.method.specs.declared.Operation.{Operation}
 use Rattle.protocol.specs.View.{Op}
-use Rattle.promise.specs.Tie.{Past, Stands, At, openAt}
+use Rattle.promise.specs.Tie.{Past, Stands, At, openPhase, openAt}
+
+-- what is open is its client's, and has begun
+open-client : (ph : Phase) (o c : ℕ) (x : Operation) → openPhase ph o c x .call .client ≡ c
+open-client (Asking held) o c x = refl
+open-client (Keeping held) o c x = refl
+
+open-begun : (ph : Phase) (o c : ℕ) (x : Operation) → 1 ≤ openPhase ph o c x .phase
+open-begun (Asking held) o c x = omega arith
+open-begun (Keeping held) o c x = omega arith
 
 -- operation o changes, and no other
 module _ (f g : ℕ → Op) (o : ℕ) (other : (i : ℕ) → i ≢ o → g i ≡ f i) where
@@ -31,8 +43,7 @@ module _ (f g : ℕ → Op) (o : ℕ) (other : (i : ℕ) → i ≢ o → g i ≡
 
     pub at-other : (u : ℕ) (w : Work) → At f d u w → At g d u w
     at-other u Idle h = λ i. past-other i (ℕ-discrete i o) (h i)
-    at-other u (Asking cell goal set held) h = stands-other u (openAt 1 u d cell goal set held) refl (omega arith) h
-    at-other u (Keeping cell goal set held) h = stands-other u (openAt 2 u d cell goal set held) refl (omega arith) h
+    at-other u (Open x) h = stands-other u (openAt u d x) (open-client (x .phase) u d x) (open-begun (x .phase) u d x) h
 
   -- the client whose operation it is
   pub stands-on : (c : ℕ) (x : Op) → g o ≡ x → ((i : ℕ) → i ≢ o → Past f c i) → Stands g c o x

@@ -16,7 +16,9 @@ use Rattle.method.specs.declared.InSlot.{InSlot}
 use Rattle.method.specs.declared.InSlot.the-variants.{Empty, Full}
 use Rattle.method.specs.declared.Party.{Party}
 use Rattle.rack.specs.declared.Line.{Line}
+use Rattle.record.specs.Entry.{clientLimit}
 use Rattle.rack.specs.declared.Rack.{Rack}
+use Rattle.rack.specs.Sound.{quorumsOf}
 use Rattle.stamps.specs.Stamp.{freshPair}
 use Rattle.method.specs.declared.Event.{Event}
 use Rattle.method.specs.declared.Note.{Note}
@@ -30,9 +32,15 @@ use Rattle.rack.specs.Looking.{lookedClient, lookedParty, lookedPlace}
 use Rattle.protocol.specs.View.{Setting, Op, View}
 use Rattle.protocol.specs.Move.{Reached}
 use Rattle.promise.specs.Setting.{settingOf}
-use Rattle.method.specs.Method.{Says}
 use Rattle.promise.specs.Tie.{pairOf, At, Means, OnWire, Holding, opOf, Book, Tie}
 use Rattle.promise.specs.laws.Wire.{cleared-all, sent-all, addressed-of}
+
+-- what the plan sends, whoever it goes to: of client c, about cell x, for operation number o, with body b
+pub record Says (p : Plan) (c x o : ℕ) (b : Body) : Type 0 where
+  pub client : p .message .client .0 ≡ c
+  pub cell : p .message .cell .0 ≡ x
+  pub op : p .message .op ≡ o
+  pub body : p .message .body ≡ b
 
 -- what is sent to replica k: it is the event's client's, of an operation number that this client has had, and it means something true
 pub record Sends (S : Setting) (w : View) (name : ℕ → ℕ → ℕ) (c : ℕ) (p : Plan) (k : ℕ) : Type 0 where
@@ -51,16 +59,16 @@ at-still ops name c a b eo ew h = rw (eo, ew) h
 
 -- The event e, done as planned on a rack that the view v stands for, leaves the view w.
 pub record Next (r : Rack) (e : Event) (p : Plan) (v : View) (name : ℕ → ℕ → ℕ) (w : View) (name' : ℕ → ℕ → ℕ) : Type 0 where
-  pub reached : Reached (settingOf (r .settings .replicas)) w
+  pub reached : Reached (settingOf (quorumsOf (r .settings))) w
   pub now : w .now ≡ r .count + entriesIn (p .note)
   -- operation numbers don't fall
   pub op : lookedParty r e .op ≤ p .party .op
   -- what is true of the messages on the wire stays true
   pub old : (m : Message) → m .op ≤ opOf r (m .client .0)
-      → Means (settingOf (r .settings .replicas)) v (name (m .client .0) (m .op)) (m .replica .0) (m .cell .0) (m .body)
-      → Means (settingOf (r .settings .replicas)) w (name' (m .client .0) (m .op)) (m .replica .0) (m .cell .0) (m .body)
+      → Means (settingOf (quorumsOf (r .settings))) v (name (m .client .0) (m .op)) (m .replica .0) (m .cell .0) (m .body)
+      → Means (settingOf (quorumsOf (r .settings))) w (name' (m .client .0) (m .op)) (m .replica .0) (m .cell .0) (m .body)
   -- what is sent is true
-  pub new : (k : ℕ) → In k (membersOf (r .settings .replicas) (p .to)) → Sends (settingOf (r .settings .replicas)) w name' (lookedClient r e) p k
+  pub new : (k : ℕ) → In k (membersOf (r .settings .replicas) (p .to)) → Sends (settingOf (quorumsOf (r .settings))) w name' (lookedClient r e) p k
   -- the event's client, and the others
   pub this : At (w .ops) (lookedClient r e) (name' (lookedClient r e) (p .party .op)) (p .party .work)
   pub others : (c : ℕ) → c < r .settings .clients → c ≢ lookedClient r e → At (w .ops) c (name' c (opOf r c)) (partyAt r c .work)
@@ -80,11 +88,11 @@ recorded-long Nothing count lines = refl
 recorded-long (Asked x) count lines = length-set lines count (record { entry = x })
 recorded-long (Ended x) count lines = length-set lines count (record { entry = x })
 
-module _ (r : Rack) (e : Event) (p : Plan) (v : View) (name : ℕ → ℕ → ℕ) (t : Tie r v name) (there : lookedClient r e < 8)
+module _ (r : Rack) (e : Event) (p : Plan) (v : View) (name : ℕ → ℕ → ℕ) (t : Tie r v name) (there : lookedClient r e < clientLimit)
     (w : View) (name' : ℕ → ℕ → ℕ) (n : Next r e p v name w name') where
   -- the setting of this rack: its sets of replicas, its majorities and its stamps
   abbrev S : Setting
-  S = settingOf (r .settings .replicas)
+  S = settingOf (quorumsOf (r .settings))
 
   -- the client that the event is about
   abbrev client : ℕ

@@ -1,17 +1,19 @@
 -- The method's choices between pairs are those of the view.
 use Prim.Native.Nat.{ℕ}
 use mathlib.Core.Path.{_≡_, refl, sym, _∙_, ap}
-use mathlib.Core.Logic.{_⊎_, ⊎-elim}
+use mathlib.Core.Logic.{_≢_}
 use mathlib.Core.Bool.{Bool, true, false, cond, _||_}
 use lib.IntN.{ℤ}
-use lib.Dec.{eqb}
-use borrow.Author.Tests.{eqb-false}
+use borrow.Author.Tests.{eq-eqb, ne-eqb}
 use Rattle.record.specs.declared.Cell.{Cell}
+use Rattle.quorum.specs.declared.Quorums.{Quorums}
 use Rattle.stamps.specs.declared.Pair.{Pair}
 use Rattle.stamps.specs.Stamp.{stampLess, raised}
 use Rattle.stamps.specs.StampOrder.{Ranked, stampOf}
 use Rattle.stamps.specs.laws.StampOrderLaws.{stamp-order}
 use Rattle.method.specs.laws.Tests.{whichever}
+use Rattle.method.specs.declared.Holding.{Holding as Held}
+use Rattle.method.specs.declared.Holding.the-variants.{NoPair, Holds}
 use Rattle.method.specs.declared.Goal.{Goal}
 use Rattle.method.specs.declared.Goal.the-variants.{Read, Write}
 use Rattle.protocol.specs.View.{Pair as Seen}
@@ -20,7 +22,7 @@ use Rattle.promise.specs.Setting.{settingOf}
 use Rattle.promise.specs.laws.SettingLaws.{next-stamp}
 use Rattle.method.specs.Holding.{holds}
 use Rattle.method.specs.Method.{Written, Chosen}
-use Rattle.promise.specs.Tie.{pairOf, openAt}
+use Rattle.promise.specs.Tie.{pairOf, heldIn, openWith}
 
 -- a stamp is greater where the view's is
 newer-is : (own given : Pair) → Ranked (own .stamp) → Ranked (given .stamp) → (t : Bool) → stampLess (own .stamp) (given .stamp) ≡ t
@@ -36,39 +38,38 @@ raised-seen own given after ho hg q = go (stampLess (own .stamp) (given .stamp))
     go true e q = rw (newer-is own given ho hg true e, q)
     go false e q = rw (newer-is own given ho hg false e, q)
 
+-- what is held in the ask phase: nothing with an empty set, and else a pair whose rank is a client's
+abbrev pub HeldRanked : ℕ → Held → Type 0
+HeldRanked set NoPair = set ≡ 0
+HeldRanked set (Holds p) = (set ≢ 0) × Ranked (p .stamp)
+
 -- what an asking operation holds after a tell
-pub holds-seen : (o c : ℕ) (cell : Cell) (goal : Goal) (set : ℕ) (held told after : Pair) → (set ≡ 0) ⊎ Ranked (held .stamp) → Ranked (told .stamp)
-    → after ≡ holds set held told → heldOf (openAt 1 o c cell goal set held) (pairOf told) ≡ pairOf after
+pub holds-seen : (o c : ℕ) (cell : Cell) (goal : Goal) (set : ℕ) (held : Held) (told : Pair) → HeldRanked set held → Ranked (told .stamp)
+    → heldOf (openWith 1 o c cell goal set (heldIn held)) (pairOf told) ≡ pairOf (holds held told)
 unfolding holds
-holds-seen o c cell goal set held told after hh ht q = go (eqb set 0) refl q
-  where
-    go : (t : Bool) → eqb set 0 ≡ t → after ≡ cond t told (raised held told) → heldOf (openAt 1 o c cell goal set held) (pairOf told) ≡ pairOf after
-    go true e q = rw (e, q)
-    go false e q =
-        ap (λ (t : Bool). cond (t || newer (pairOf held) (pairOf told)) (pairOf told) (pairOf held)) e
-        ∙ ⊎-elim (λ (z : set ≡ 0). absurd (eqb-false set 0 e z)) (λ h. raised-seen held told after h ht q) hh
+holds-seen o c cell goal set NoPair told h ht = rw (eq-eqb set 0 h)
+holds-seen o c cell goal set (Holds p) told h ht =
+    ap (λ (t : Bool). cond (t || newer (pairOf p) (pairOf told)) (pairOf told) (pairOf p)) (ne-eqb set 0 (h .0))
+    ∙ raised-seen p told (raised p told) (h .1) ht refl
 
 -- its rank is one of theirs
 raised-rank : (own given after : Pair) → Ranked (own .stamp) → Ranked (given .stamp) → after ≡ raised own given → Ranked (after .stamp)
 unfolding raised
 raised-rank own given after ho hg q = rw q (whichever (λ (p : Pair). Ranked (p .stamp)) (stampLess (own .stamp) (given .stamp)) given own hg ho)
 
-pub holds-rank : (set : ℕ) (held told after : Pair) → (set ≡ 0) ⊎ Ranked (held .stamp) → Ranked (told .stamp) → after ≡ holds set held told → Ranked (after .stamp)
+pub holds-rank : (set : ℕ) (held : Held) (told : Pair) → HeldRanked set held → Ranked (told .stamp) → Ranked (holds held told .stamp)
 unfolding holds
-holds-rank set held told after hh ht q = go (eqb set 0) refl q
-  where
-    go : (t : Bool) → eqb set 0 ≡ t → after ≡ cond t told (raised held told) → Ranked (after .stamp)
-    go true e q = rw q ht
-    go false e q = ⊎-elim (λ (z : set ≡ 0). absurd (eqb-false set 0 e z)) (λ h. raised-rank held told after h ht q) hh
+holds-rank set NoPair told h ht = ht
+holds-rank set (Holds p) told h ht = raised-rank p told (raised p told) (h .1) ht refl
 
 -- what it chooses
-written-seen : (n c : ℕ) (v : ℤ) (held chosen : Pair) → Ranked (held .stamp) → Written c v held chosen
-    → _≡_ {A = Seen} (record { stamp = settingOf n .next (stampOf (held .stamp)) c; value = v }) (pairOf chosen)
-written-seen n c v held chosen h w =
-    ap (λ (s : ℕ). record { stamp = s; value = v }) (next-stamp n c (held .stamp) (chosen .stamp) h (w .stamp))
+written-seen : (q : Quorums) (c : ℕ) (v : ℤ) (held chosen : Pair) → Ranked (held .stamp) → Written c v held chosen
+    → _≡_ {A = Seen} (record { stamp = settingOf q .next (stampOf (held .stamp)) c; value = v }) (pairOf chosen)
+written-seen q c v held chosen h w =
+    ap (λ (s : ℕ). record { stamp = s; value = v }) (next-stamp q c (held .stamp) (chosen .stamp) h (w .stamp))
     ∙ ap (λ (y : ℤ). record { stamp = stampOf (chosen .stamp); value = y }) (sym (w .value))
 
-pub chosen-seen : (n o c : ℕ) (cell : Cell) (goal : Goal) (set : ℕ) (held chosen : Pair) → Ranked (held .stamp) → Chosen goal c held chosen
-    → chosenOf (settingOf n) (openAt 1 o c cell goal set held) ≡ pairOf chosen
-chosen-seen n o c cell Read set held chosen h e = ap pairOf (sym e)
-chosen-seen n o c cell (Write v) set held chosen h w = written-seen n c v held chosen h w
+pub chosen-seen : (q : Quorums) (o c : ℕ) (cell : Cell) (goal : Goal) (set : ℕ) (held chosen : Pair) → Ranked (held .stamp) → Chosen goal c held chosen
+    → chosenOf (settingOf q) (openWith 1 o c cell goal set (pairOf held)) ≡ pairOf chosen
+chosen-seen q o c cell Read set held chosen h e = ap pairOf (sym e)
+chosen-seen q o c cell (Write v) set held chosen h w = written-seen q c v held chosen h w

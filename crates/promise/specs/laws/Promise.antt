@@ -8,7 +8,7 @@ use Rattle.law.specs.Order.{Lawful}
 use Rattle.rack.specs.declared.Rack.{Rack}
 use Rattle.rack.specs.declared.Made.{Made}
 use Rattle.rack.specs.Places.{recordOf}
-use Rattle.rack.specs.Sound.{settingsFit}
+use Rattle.rack.specs.Sound.{settingsFit, quorumsOf}
 use Rattle.rack.specs.Run.{freshRack, madeOf, runOf}
 use Rattle.protocol.specs.laws.Atomic.{atomic}
 use Rattle.promise.specs.Setting.{settingOf}
@@ -19,7 +19,7 @@ use Rattle.promise.specs.Reached.{Reached, made, ran}
 
 -- the record of a rack that a view stands for
 tied-lawful : (r : Rack) → Tied r → Lawful (operations (recordOf r))
-tied-lawful r k = shown-lawful (k .view .ops) (recordOf r) (k .tie .book) (atomic (settingOf (r .settings .replicas)) (k .view) (k .tie .reached))
+tied-lawful r k = shown-lawful (k .view .ops) (recordOf r) (k .tie .book) (atomic (settingOf (quorumsOf (r .settings))) (k .view) (k .tie .reached))
 
 made-tied : (replicas clients cells : ℕ) → Tied (madeOf replicas clients cells .rack)
 unfolding madeOf

@@ -22,7 +22,7 @@ use Rattle.method.specs.declared.Goal.{Goal}
 use Rattle.method.specs.declared.Goal.the-variants.{Read, Write}
 use Rattle.rack.specs.declared.Line.{Line}
 use Rattle.rack.specs.declared.Rack.{Rack}
-use Rattle.stamps.specs.Stamp.{freshPair}
+use Rattle.method.specs.Plan.{asked}
 use Rattle.method.specs.declared.Event.{Event}
 use Rattle.method.specs.declared.Note.{Note}
 use Rattle.method.specs.declared.Note.the-variants.{Nothing, Asked, Ended}
@@ -32,7 +32,7 @@ use Rattle.rack.specs.Run.{recorded, entriesIn, appliedOf}
 use Rattle.protocol.specs.View.{Op}
 use Rattle.protocol.specs.Move.{ended}
 use Rattle.method.specs.Holding.{firstEntry, lastEntry}
-use Rattle.promise.specs.Tie.{Past, openAt, shown, Book}
+use Rattle.promise.specs.Tie.{pairOf, Past, openWith, openAt, shown, Book}
 
 -- ---- entries of a rack
 
@@ -110,15 +110,15 @@ module _ (f g : ℕ → Op) (o : ℕ) (other : (i : ℕ) → i ≢ o → g i ≡
       back i (no q) h = rw (other i q) at h
 
   -- it begins, with entry o
-  pub book-start : (c : ℕ) (cell : Cell) (goal : Goal) → g o ≡ openAt 1 o c cell goal 0 freshPair → ((x : Operation) → In x s → x .number < o)
+  pub book-start : (c : ℕ) (cell : Cell) (goal : Goal) → g o ≡ openAt o c (asked cell goal) → ((x : Operation) → In x s → x .number < o)
       → Book g (note o (firstEntry goal (record { 0 = c }) cell) s)
   unfolding note
   book-start c cell goal e early = rw (noted goal) after
     where
       new : Operation
-      new = shown o (openAt 1 o c cell goal 0 freshPair)
+      new = shown o (openAt o c (asked cell goal))
 
-      noted : (k : Goal) → note o (firstEntry k (record { 0 = c }) cell) s ≡ s ++ (shown o (openAt 1 o c cell k 0 freshPair) ∷ [])
+      noted : (k : Goal) → note o (firstEntry k (record { 0 = c }) cell) s ≡ s ++ (shown o (openAt o c (asked cell k)) ∷ [])
       noted Read = refl
       noted (Write v) = refl
 
@@ -143,8 +143,8 @@ module _ (f g : ℕ → Op) (o : ℕ) (other : (i : ℕ) → i ≢ o → g i ≡
           }
 
   -- it ends, with entry t
-  pub book-end : (c t : ℕ) (cell : Cell) (goal : Goal) (set : ℕ) (held : Pair) → f o ≡ openAt 2 o c cell goal set held
-      → g o ≡ ended (openAt 2 o c cell goal set held) t → ((i : ℕ) → i ≢ o → Past f c i) → Book g (note t (lastEntry goal (record { 0 = c }) held) s)
+  pub book-end : (c t : ℕ) (cell : Cell) (goal : Goal) (set : ℕ) (held : Pair) → f o ≡ openWith 2 o c cell goal set (pairOf held)
+      → g o ≡ ended (openWith 2 o c cell goal set (pairOf held)) t → ((i : ℕ) → i ≢ o → Past f c i) → Book g (note t (lastEntry goal (record { 0 = c }) held) s)
   unfolding note lastEntry
   book-end c t cell goal set held ef eg past = rw (noted goal) after
     where
@@ -159,7 +159,7 @@ module _ (f g : ℕ → Op) (o : ℕ) (other : (i : ℕ) → i ≢ o → g i ≡
       noted Read = refl
       noted (Write v) = refl
 
-      this : (k : Goal) → ending t c (given k) (shown o (openAt 2 o c cell k set held)) ≡ shown o (ended (openAt 2 o c cell k set held) t)
+      this : (k : Goal) → ending t c (given k) (shown o (openWith 2 o c cell k set (pairOf held))) ≡ shown o (ended (openWith 2 o c cell k set (pairOf held)) t)
       this Read = rw (eq-eqb c c refl)
       this (Write v) = rw (eq-eqb c c refl)
 

@@ -1,4 +1,4 @@
--- The setting of a rack with n replicas, for the argument of crate protocol: sets of replicas, quorums and stamps with the few laws that it asks for.
+-- The setting of a rack with some quorums, for the argument of crate protocol: sets of replicas, quorums and stamps with the few laws that it asks for.
 -- This file alone knows what sets and quorums are (stamps are numbers by StampOrder.antt of stamps); the rest of the crate goes by these names.
 use Prim.Native.Nat.{ℕ, _<_}
 use mathlib.Core.Path.{_≡_}
@@ -7,6 +7,7 @@ use mathlib.Core.Bool.{true}
 use mathlib.Core.List.{List·Memᴰ}
 use native.Mathlib.Omega.{arith}
 use borrow.Author.Tests.{ltb-true}
+use Rattle.quorum.specs.declared.Quorums.{Quorums}
 use Rattle.quorum.specs.Sets.{withReplica, asksEnough, keepsEnough, within, membersOf}
 use Rattle.quorum.specs.laws.SetLaws.{within-below, below-within, with-new, with-below}
 use Rattle.quorum.specs.laws.Members.{members-has}
@@ -38,16 +39,16 @@ within-more n s k e h = below-within n (withReplica s k) (with-below n s k (with
 
 -- ---- the setting
 
--- a set of n replicas with one of them more, when the method finds it enough
-pub ask-enough : (n s k : ℕ) → within n s ≡ true → k < n → asksEnough n (withReplica s k) ≡ true → settingOf n .AskEnough (withReplica s k)
-ask-enough n s k e h q = (within-more n s k e h, q)
+-- a set of replicas with one of them more, when the method finds it enough
+pub ask-enough : (q : Quorums) (s k : ℕ) → within (q .replicas) s ≡ true → k < q .replicas → asksEnough q (withReplica s k) ≡ true → settingOf q .AskEnough (withReplica s k)
+ask-enough q s k e h b = (within-more (q .replicas) s k e h, b)
 
-pub keep-enough : (n s k : ℕ) → within n s ≡ true → k < n → keepsEnough n (withReplica s k) ≡ true → settingOf n .KeepEnough (withReplica s k)
-keep-enough n s k e h q = (within-more n s k e h, q)
+pub keep-enough : (q : Quorums) (s k : ℕ) → within (q .replicas) s ≡ true → k < q .replicas → keepsEnough q (withReplica s k) ≡ true → settingOf q .KeepEnough (withReplica s k)
+keep-enough q s k e h b = (within-more (q .replicas) s k e h, b)
 
 -- the stamp that the method gives to a write is the next one
-pub next-stamp : (n c : ℕ) (s t : Stamp) → Ranked s → Follows c s t → settingOf n .next (stampOf s) c ≡ stampOf t
-next-stamp n c s t h f = omega (arith, f .number, f .rank)
+pub next-stamp : (q : Quorums) (c : ℕ) (s t : Stamp) → Ranked s → Follows c s t → settingOf q .next (stampOf s) c ≡ stampOf t
+next-stamp q c s t h f = omega (arith, f .number, f .rank)
 
 -- ---- who is sent to
 

@@ -14,14 +14,13 @@ use Rattle.stamps.specs.Stamp.{freshPair}
 use Rattle.method.specs.declared.Event.{Event}
 use Rattle.method.specs.declared.Plan.{Plan}
 use Rattle.rack.specs.Places.{pairPlace}
-use Rattle.rack.specs.Sound.{bodyFits, heldFits}
+use Rattle.rack.specs.Sound.{bodyFits, heldFits, quorumsOf}
 use Rattle.rack.specs.Looking.{slotOf, placeIn}
 use Rattle.rack.specs.laws.SoundLaws.{Named, named}
 use Rattle.rack.specs.laws.Decided.{Looked}
 use Rattle.rack.specs.Looking.{lookedHeld, lookedClient, lookedPlace, lookedPair}
 use Rattle.protocol.specs.View.{Setting, View}
 use Rattle.promise.specs.Setting.{settingOf}
-use Rattle.method.specs.Method.{Got}
 use Rattle.promise.specs.Tie.{pairOf, Means, OnWire, Holding, opOf, Tie}
 
 place-of : (h : InSlot) (m : Message) → h ≡ Full m → placeIn h ≡ pairPlace (m .replica .0) (m .cell .0)
@@ -32,6 +31,12 @@ fits-of : (z : Settings) (h : InSlot) (m : Message) → h ≡ Full m → heldFit
 unfolding heldFits
 fits-of z h m e f = named z m (rw e at f)
 
+-- the slot held message m with body b, and it is client c's
+pub record Got (c : ℕ) (held : InSlot) (m : Message) (b : Body) : Type 0 where
+  pub here : held ≡ Full m
+  pub client : m .client .0 ≡ c
+  pub body : m .body ≡ b
+
 -- What is known of a message that was got, of the event's client and with body b.
 pub record Found (r : Rack) (e : Event) (v : View) (name : ℕ → ℕ → ℕ) (m : Message) (b : Body) : Type 0 where
   -- it names what is there
@@ -39,7 +44,7 @@ pub record Found (r : Rack) (e : Event) (v : View) (name : ℕ → ℕ → ℕ) 
   pub fits : bodyFits (r .settings) b ≡ true
   -- its operation number is one that the client has had, and it means something true
   pub op : m .op ≤ opOf r (lookedClient r e)
-  pub means : Means (settingOf (r .settings .replicas)) v (name (lookedClient r e) (m .op)) (m .replica .0) (m .cell .0) b
+  pub means : Means (settingOf (quorumsOf (r .settings))) v (name (lookedClient r e) (m .op)) (m .replica .0) (m .cell .0) b
   -- the pair that the event looks at is that of its replica for its cell
   pub place : lookedPlace r e ≡ pairPlace (m .replica .0) (m .cell .0)
   pub pair : v .pair (m .replica .0) (m .cell .0) ≡ pairOf (lookedPair r e)
@@ -58,7 +63,7 @@ found r e v name m b t l g =
     }
   where
     S : Setting
-    S = settingOf (r .settings .replicas)
+    S = settingOf (quorumsOf (r .settings))
 
     n : Named (r .settings) m
     n = fits-of (r .settings) (lookedHeld r e) m (g .here) (l .held)
