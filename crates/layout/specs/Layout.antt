@@ -6,12 +6,14 @@
 --   256 slots of 9 words: 0 empty or 1 full, body (0 ask, 1 tell, 2 keep, 3 kept), client, replica, cell, operation number, number, rank, value;
 --   2,048 entries of 4 words: kind, client, cell, value.
 -- A value is the number it is written as. Words that a kind hasn't got stand as 0 and aren't looked at.
-use Prim.Native.Nat.{ℕ, zero, suc, _+_, _*_}
+use Prim.Native.Nat.{ℕ, zero, suc, _+_, _-_, _*_, _^_}
 use mathlib.Core.List.{List, [], _∷_, _++_}
 use lib.ListN.{getD}
 use Rattle.record.specs.Entry.{clientLimit}
 use Rattle.record.specs.Record.{entryLimit}
-use Rattle.rack.specs.Places.{slotLimit, pairLimit}
+use Rattle.quorum.specs.Sets.{setBits}
+use Rattle.method.specs.Refusals.{lastOp}
+use Rattle.rack.specs.Places.{slotLimit, replicaLimit, pairLimit}
 
 -- the words of the head, a client, a pair, a slot and an entry
 abbrev pub headSize : ℕ
@@ -28,6 +30,10 @@ slotSize = 9
 
 abbrev pub entrySize : ℕ
 entrySize = 4
+
+-- what a client is at takes all of its words but two: whether it is stopped, and its operation number
+abbrev pub workSize : ℕ
+workSize = partySize - 2
 
 -- where client i stands: after the head
 abbrev pub partyPlace : ℕ → ℕ
@@ -48,6 +54,30 @@ entryPlace i = slotPlace slotLimit + entrySize * i
 -- how many words a rack takes: up to after the entries
 abbrev pub wordCount : ℕ
 wordCount = entryPlace entryLimit
+
+-- ---- what a word can say
+
+-- numbers of clients, replicas, cells and ranks are bytes
+abbrev pub byteLimit : ℕ
+byteLimit = 256
+
+-- a number that no rack has: the greatest that is a byte
+abbrev pub strayNumber : ℕ
+strayNumber = byteLimit - 1
+
+-- a set has a bit for each replica that it has room for
+abbrev pub setLimit : ℕ
+setLimit = 2 ^ setBits
+
+-- operation numbers go up to the last
+abbrev pub opLimit : ℕ
+opLimit = lastOp + 1
+
+-- power has a bit for each replica that a rack can have
+abbrev pub powerLimit : ℕ
+powerLimit = 2 ^ replicaLimit
+
+-- ---- words
 
 -- the word at a place
 abbrev pub word : List ℕ → ℕ → ℕ

@@ -4,6 +4,5 @@ pub mod Reading
 pub mod Writing
 pub mod State
 pub mod Calls
-pub mod Plain
 -- What is proved of them.
 pub mod laws

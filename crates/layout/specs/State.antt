@@ -6,7 +6,7 @@ use mathlib.Core.List.{List}
 use lib.Dec.{eqb}
 use Rattle.record.specs.Record.{entryLimit}
 use Rattle.rack.specs.Places.{slotLimit}
-use Rattle.layout.specs.Layout.{partyPlace, slotPlace, entryPlace, word}
+use Rattle.layout.specs.Layout.{partyPlace, slotPlace, entryPlace, powerLimit, word}
 use Rattle.layout.specs.Reading.{partyKnown, messageKnown, lineKnown, rackOf}
 
 -- whether a client stands at a place
@@ -19,7 +19,7 @@ slotKnownAt ws at = eqb (word ws at) 0 || messageKnown (word ws at) (word ws (at
 
 -- the words are a state: power, count, entries, clients and slots are such
 pub record State (ws : List ℕ) : Type 0 where
-  pub power : word ws 3 < 32768
+  pub power : word ws 3 < powerLimit
   pub count : word ws 4 ≤ entryLimit
   pub entries : (i : ℕ) → i < word ws 4 → lineKnown ws (entryPlace i) ≡ true
   pub parties : (i : ℕ) → i < rackOf ws .settings .clients → partyKnownAt ws (partyPlace i) ≡ true

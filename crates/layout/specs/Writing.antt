@@ -2,7 +2,7 @@
 use Prim.Native.Nat.{ℕ, zero, suc, _*_, _%_}
 use mathlib.Core.List.{List, [], _∷_, _++_}
 use mathlib.Core.Bool.{Bool, true, false, cond}
-use lib.Dec.{ltb, eqb}
+use lib.Dec.{ltb}
 use lib.ListN.{getD, replicate}
 use lib.Seq.{sets}
 use Rattle.number.specs.Value.{alternatingOf}
@@ -19,13 +19,18 @@ use Rattle.method.specs.declared.InSlot.the-variants.{Empty, Full}
 use Rattle.method.specs.declared.Goal.{Goal}
 use Rattle.method.specs.declared.Goal.the-variants.{Read, Write}
 use Rattle.method.specs.declared.Work.{Work}
-use Rattle.method.specs.declared.Work.the-variants.{Idle, Asking, Keeping}
+use Rattle.method.specs.declared.Work.the-variants.{Idle, Open}
+use Rattle.method.specs.declared.Operation.{Operation}
+use Rattle.method.specs.declared.Phase.{Phase}
+use Rattle.method.specs.declared.Phase.the-variants.{Asking, Keeping}
+use Rattle.method.specs.declared.Holding.{Holding}
+use Rattle.method.specs.declared.Holding.the-variants.{NoPair, Holds}
 use Rattle.method.specs.declared.Party.{Party}
 use Rattle.rack.specs.declared.Line.{Line}
 use Rattle.rack.specs.declared.Rack.{Rack}
 use Rattle.stamps.specs.Stamp.{freshPair}
 use Rattle.rack.specs.Places.{slotLimit, partyAt, heldAt}
-use Rattle.layout.specs.Layout.{slotSize, partyPlace, pairPlace, slotPlace, entryPlace}
+use Rattle.layout.specs.Layout.{workSize, slotSize, partyPlace, pairPlace, slotPlace, entryPlace}
 
 -- a pair: number, rank, value
 unfoldable pub pairWords : Pair → List ℕ
@@ -37,20 +42,34 @@ noPair = 0 ∷ 0 ∷ 0 ∷ []
 
 -- ---- clients
 
--- nothing is held while the set of the ask phase is empty
-unfoldable pub toldWords : ℕ → Pair → List ℕ
-toldWords set held = cond (eqb set 0) noPair (pairWords held)
+-- the number of a phase
+unfoldable pub phaseWord : Phase → ℕ
+phaseWord (Asking held) = 1
+phaseWord (Keeping held) = 2
+
+-- what is held in the ask phase: nothing, or a pair
+unfoldable pub holdingWords : Holding → List ℕ
+holdingWords NoPair = noPair
+holdingWords (Holds p) = pairWords p
+
+-- what is held in a phase
+unfoldable pub heldWords : Phase → List ℕ
+heldWords (Asking held) = holdingWords held
+heldWords (Keeping p) = pairWords p
 
 -- an open operation but what it holds
 unfoldable pub openWords : ℕ → Cell → Goal → ℕ → List ℕ
 openWords phase cell Read set = phase ∷ cell .0 ∷ 0 ∷ 0 ∷ set ∷ []
 openWords phase cell (Write v) set = phase ∷ cell .0 ∷ 1 ∷ alternatingOf v ∷ set ∷ []
 
+-- an open operation
+unfoldable pub operationWords : Operation → List ℕ
+operationWords o = openWords (phaseWord (o .phase)) (o .cell) (o .goal) (o .set) ++ heldWords (o .phase)
+
 -- what a client is at
 unfoldable pub workWords : Work → List ℕ
-workWords Idle = replicate 8 0
-workWords (Asking cell goal set held) = openWords 1 cell goal set ++ toldWords set held
-workWords (Keeping cell goal set held) = openWords 2 cell goal set ++ pairWords held
+workWords Idle = replicate workSize 0
+workWords (Open o) = operationWords o
 
 -- 1 for what is so, 0 for what isn't
 unfoldable pub flag : Bool → ℕ

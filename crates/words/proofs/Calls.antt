@@ -1,16 +1,17 @@
 -- What the calls leave, from what their parts give.
 use Prim.Native.Nat.{ℕ}
 use mathlib.Core.Path.{_≡_, refl, ap, sym, _∙_}
-use mathlib.Core.Bool.{Bool, true, false, cond}
+use mathlib.Core.Bool.{Bool, true, false}
 use mathlib.Core.List.{List}
 use lib.Dec.{eqb, ltb}
 use lib.ListN.{length, replicate}
-use borrow.Author.Tests.{eq-eqb, ne-eqb}
+use borrow.Author.Tests.{eq-eqb, ne-eqb, eqb-true, eqb-false, ltb-true, ltb-false}
 use Rattle.rack.specs.declared.Rack.{Rack}
 use Rattle.rack.specs.declared.Made.{Made}
 use Rattle.rack.specs.declared.Ran.{Ran}
 use Rattle.rack.specs.Sound.{soundOf}
 use Rattle.rack.specs.Run.{madeOf, ranOf, runOf}
+use Rattle.runs.specs.laws.Steps.{none-allowed, none-there, none-sound}
 use Rattle.runs.specs.laws.Parts.{run-stays}
 use Rattle.layout.specs.declared.WordsAnswer.{WordsAnswer}
 use Rattle.layout.specs.Layout.{wordCount}
@@ -62,18 +63,22 @@ run-some ws n es r q after a h er eq ed ew ea =
     let d = ne-eqb (q .done) 0 ed in
     (rw (e, ← p) ea, rw (e, ← p, d) ew)
 
+-- on an unsound rack no event is done
+unsound-none : (r : Rack) (n : ℕ) (es : List ℕ) → soundOf r ≡ false → runOf r n es .done ≡ 0
+unsound-none r n es s = go (eqb n 0) refl (ltb (length es) 4) refl
+  where
+    done-of : (k : ℕ) → runOf r n es ≡ ranOf 0 k r → runOf r n es .done ≡ 0
+    done-of k e = ap (λ (q : Ran). q .done) e
+
+    go : (a : Bool) → eqb n 0 ≡ a → (b : Bool) → ltb (length es) 4 ≡ b → runOf r n es .done ≡ 0
+    go true e b f = done-of 0 (none-allowed r n es (eqb-true n 0 e))
+    go false e true f = done-of 0 (none-there r n es (ltb-true (length es) 4 f))
+    go false e false f = done-of 2 (none-sound r n es s (eqb-false n 0 e) (ltb-false (length es) 4 f))
+
 -- where an event was done the rack is sound
 pub run-sound : (r : Rack) (n : ℕ) (es : List ℕ) (q : Ran) → q ≡ runOf r n es → (q .done ≡ 0 → ⊥) → soundOf (q .rack) ≡ true
-unfolding runOf
 run-sound r n es q e d = ap (λ (k : Ran). soundOf (k .rack)) e ∙ go (soundOf r) refl
   where
-    none : (a b : Bool) → cond a (ranOf 0 0 r) (cond b (ranOf 0 0 r) (ranOf 0 2 r)) .done ≡ 0
-    none true b = refl
-    none false true = refl
-    none false false = refl
-
     go : (t : Bool) → soundOf r ≡ t → soundOf (runOf r n es .rack) ≡ true
     go true s = run-stays r n es s
-    go false s =
-        let z : runOf r n es .done ≡ 0 = rw s (none (eqb n 0) (ltb (length es) 4)) in
-        absurd (d (ap (λ (k : Ran). k .done) e ∙ z))
+    go false s = absurd (d (ap (λ (k : Ran). k .done) e ∙ unsound-none r n es s))

@@ -8,9 +8,10 @@ use lib.Dec.{ltb, eqb}
 use lib.ListN.{length, set, drop, length-append, length-drop, drop-of-length-le, replicate, replicate-append-replicate}
 use lib.Seq.{drop-cons, set-at, append-snoc}
 use borrow.Author.Tests.{lt-ltb, le-ltb, ltb-true}
+use Rattle.record.specs.Record.{entryLimit}
 use Rattle.rack.specs.Sound.{allBelow}
 use Rattle.method.specs.laws.Tests.{and-left, and-right}
-use Rattle.layout.specs.Layout.{entryPlace, word, firsts}
+use Rattle.layout.specs.Layout.{entryPlace, opLimit, word, firsts}
 use Rattle.layout.specs.laws.Firsts.{firsts-long}
 use Rattle.layout.specs.Reading.{partyKnown, messageKnown, lineKnown, entryCount, countIn}
 
@@ -61,15 +62,15 @@ firsts-zero zero = refl
 firsts-zero (suc n) = let e : suc n ≡ n + 1 = omega arith in ap (λ (r : List ℕ). r ++ (0 ∷ [])) (firsts-zero n) ∙ replicate-append-replicate n 1 0 ∙ ap (λ (k : ℕ). replicate k 0) (sym e)
 
 -- the operation numbers of what is known
-pub party-op : (stopped op phase goal : ℕ) → partyKnown stopped op phase goal ≡ true → op < 65536
+pub party-op : (stopped op phase goal : ℕ) → partyKnown stopped op phase goal ≡ true → op < opLimit
 unfolding partyKnown
 party-op stopped op phase goal e =
-    ltb-true op 65536 (and-right (ltb stopped 2) (ltb op 65536) (and-left (ltb stopped 2 && ltb op 65536) (ltb phase 3 && (eqb phase 0 || ltb goal 2)) e))
+    ltb-true op opLimit (and-right (ltb stopped 2) (ltb op opLimit) (and-left (ltb stopped 2 && ltb op opLimit) (ltb phase 3 && (eqb phase 0 || ltb goal 2)) e))
 
-pub message-op : (mark body op : ℕ) → messageKnown mark body op ≡ true → op < 65536
+pub message-op : (mark body op : ℕ) → messageKnown mark body op ≡ true → op < opLimit
 unfolding messageKnown
 message-op mark body op e =
-    ltb-true op 65536 (and-right (ltb body 4) (ltb op 65536) (and-right (eqb mark 1) (ltb body 4 && ltb op 65536) e))
+    ltb-true op opLimit (and-right (ltb body 4) (ltb op opLimit) (and-right (eqb mark 1) (ltb body 4 && ltb op opLimit) e))
 
 -- tests that the code makes the other way round
 pub fewer : {a b : ℕ} → a ≤ b → a < b + 1
@@ -80,18 +81,18 @@ all-end n i f h l e = let k : i ≡ n = omega arith in sym (ap (λ (j : ℕ). al
 
 -- ---- the count
 
-pub count-more : (ws : List ℕ) → 2048 < word ws 4 → 2049 ≡ countIn ws
+pub count-more : (ws : List ℕ) → entryLimit < word ws 4 → entryLimit + 1 ≡ countIn ws
 unfolding countIn
-count-more ws h = rw (lt-ltb 2048 (word ws 4) h)
+count-more ws h = rw (lt-ltb entryLimit (word ws 4) h)
 
-pub count-unknown : (ws : List ℕ) (n : ℕ) (t : Bool) → word ws 4 ≤ 2048 → n ≡ entryCount ws → t ≡ allBelow n (λ i. lineKnown ws (entryPlace i)) → t ≡ false → 2049 ≡ countIn ws
+pub count-unknown : (ws : List ℕ) (n : ℕ) (t : Bool) → word ws 4 ≤ entryLimit → n ≡ entryCount ws → t ≡ allBelow n (λ i. lineKnown ws (entryPlace i)) → t ≡ false → entryLimit + 1 ≡ countIn ws
 unfolding countIn
 count-unknown ws n t h e p q =
     let a : allBelow (entryCount ws) (λ i. lineKnown ws (entryPlace i)) ≡ false = ap (λ (k : ℕ). allBelow k (λ i. lineKnown ws (entryPlace i))) (sym e) ∙ sym p ∙ q in
-    rw (le-ltb 2048 (word ws 4) h, a)
+    rw (le-ltb entryLimit (word ws 4) h, a)
 
-pub count-known : (ws : List ℕ) (n : ℕ) (t : Bool) → word ws 4 ≤ 2048 → n ≡ entryCount ws → t ≡ allBelow n (λ i. lineKnown ws (entryPlace i)) → t ≡ true → word ws 4 ≡ countIn ws
+pub count-known : (ws : List ℕ) (n : ℕ) (t : Bool) → word ws 4 ≤ entryLimit → n ≡ entryCount ws → t ≡ allBelow n (λ i. lineKnown ws (entryPlace i)) → t ≡ true → word ws 4 ≡ countIn ws
 unfolding countIn
 count-known ws n t h e p q =
     let a : allBelow (entryCount ws) (λ i. lineKnown ws (entryPlace i)) ≡ true = ap (λ (k : ℕ). allBelow k (λ i. lineKnown ws (entryPlace i))) (sym e) ∙ sym p ∙ q in
-    rw (le-ltb 2048 (word ws 4) h, a)
+    rw (le-ltb entryLimit (word ws 4) h, a)

@@ -5,18 +5,14 @@ use mathlib.Core.List.{List, [], _∷_, _++_}
 use native.Mathlib.Omega.{arith}
 use lib.ListN.{length, getD, set, take}
 use lib.Seq.{sets, length-sets, take-suc, take-all, length-take-le}
-use Rattle.record.specs.declared.Cell.{Cell}
-use Rattle.stamps.specs.declared.Pair.{Pair}
-use Rattle.method.specs.declared.Goal.{Goal}
 use Rattle.method.specs.declared.InSlot.the-variants.{Full}
 use Rattle.method.specs.declared.Message.{Message}
 use Rattle.method.specs.declared.Party.{Party}
 use Rattle.rack.specs.declared.Rack.{Rack}
-use Rattle.method.specs.declared.Work.{Work}
-use Rattle.method.specs.declared.Work.the-variants.{Asking, Keeping}
+use Rattle.method.specs.declared.Operation.{Operation}
 use Rattle.layout.specs.laws.PlaceLaws.{first-long}
 use Rattle.layout.specs.laws.Trip.{open-long}
-use Rattle.layout.specs.Writing.{pairWords, openWords, toldWords, workWords, flag, partyWords, bodyKind, bodyWords, slotWords, putFirsts, headOf, partiesPut, pairsPut, wirePut}
+use Rattle.layout.specs.Writing.{openWords, phaseWord, heldWords, operationWords, workWords, flag, partyWords, bodyKind, bodyWords, slotWords, putFirsts, headOf, partiesPut, pairsPut, wirePut}
 use Rattle.layout.specs.Writing.{recordPut, writtenOf}
 
 -- some and then some more
@@ -84,18 +80,13 @@ pub written : (r : Rack) (d a b c e : List ℕ) → a ≡ headOf r d → b ≡ p
 unfolding writtenOf
 written r d a b c e p q s t = t ∙ ap (recordPut r) (s ∙ ap (wirePut r) (q ∙ ap (λ (w : List ℕ). pairsPut r (partiesPut r w)) p))
 
--- what stands after the two parts of a client or of a message
-pub asking-written : (d e o : List ℕ) (at : ℕ) (w : Work) (cell : Cell) (goal : Goal) (set : ℕ) (held : Pair) → w ≡ Asking cell goal set held
-    → e ≡ sets d at (openWords 1 cell goal set) → o ≡ sets e (at + 5) (toldWords set held) → o ≡ sets d at (workWords w)
-unfolding workWords
-asking-written d e o at w cell goal set held ew p q =
-    rw ew (sets-then d e o at (at + 5) 5 (openWords 1 cell goal set) (toldWords set held) p q (open-long 1 cell goal set) refl)
-
-pub keeping-written : (d e o : List ℕ) (at : ℕ) (w : Work) (cell : Cell) (goal : Goal) (set : ℕ) (held : Pair) → w ≡ Keeping cell goal set held
-    → e ≡ sets d at (openWords 2 cell goal set) → o ≡ sets e (at + 5) (pairWords held) → o ≡ sets d at (workWords w)
-unfolding workWords
-keeping-written d e o at w cell goal set held ew p q =
-    rw ew (sets-then d e o at (at + 5) 5 (openWords 2 cell goal set) (pairWords held) p q (open-long 2 cell goal set) refl)
+-- what stands after the two parts of an open operation, a client or a message
+pub operation-written : (d e o : List ℕ) (at k : ℕ) (w : Operation) → k ≡ phaseWord (w .phase)
+    → e ≡ sets d at (openWords k (w .cell) (w .goal) (w .set)) → o ≡ sets e (at + 5) (heldWords (w .phase)) → o ≡ sets d at (operationWords w)
+unfolding operationWords
+operation-written d e o at k w ek p q =
+    sets-then d e o at (at + 5) 5 (openWords k (w .cell) (w .goal) (w .set)) (heldWords (w .phase)) p q (open-long k (w .cell) (w .goal) (w .set)) refl
+    ∙ ap (λ (j : ℕ). sets d at (openWords j (w .cell) (w .goal) (w .set) ++ heldWords (w .phase))) ek
 
 pub party-written : (d e o : List ℕ) (at : ℕ) (p : Party) (s : ℕ) → s ≡ flag (p .stopped) → e ≡ sets d at (s ∷ p .op ∷ [])
     → o ≡ sets e (at + 2) (workWords (p .work)) → o ≡ sets d at (partyWords p)

@@ -11,18 +11,23 @@ ghost use Rattle.rows.specs.Row.{entryOf, rowOf};
 ghost use Rattle.stamps.specs.Stamp.{freshPair};
 ghost use Rattle.rack.specs.Places.{slotLimit, pairLimit, idle, heldIn};
 ghost use Rattle.rack.specs.Sound.{allBelow, soundOf};
-ghost use Rattle.layout.specs.Layout.{wordCount, partyPlace, pairPlace, slotPlace, entryPlace, word, firsts};
-ghost use Rattle.layout.specs.Reading.{byteOf, setOf, pairIn, goalOf, workOf, workIn, partyKnown, strayParty, partyIn, bodyOf, messageKnown, strayHeld, fullIn, heldOf, slotIn};
-ghost use Rattle.layout.specs.Reading.{entryKnown, lineKnown, lineIn, linesIn, entryCount, countIn, powerOf, sizesIn, rackOf};
-ghost use Rattle.layout.specs.Writing.{pairWords, noPair, openWords, toldWords, workWords, flag, partyWords, bodyKind, bodyWords, slotWords, putFirsts, headOf, partiesPut};
-ghost use Rattle.layout.specs.Writing.{pairWritten, pairsPut, entryIn, writtenOf};
+ghost use Rattle.layout.specs.Layout.{partySize, workSize, pairSize, slotSize, entrySize, wordCount, partyPlace, pairPlace, slotPlace, entryPlace};
+ghost use Rattle.layout.specs.Layout.{strayNumber, opLimit, powerLimit, word, firsts};
+ghost use Rattle.layout.specs.Reading.{byteOf, setOf, pairIn, goalOf, holdingOf, phaseOf, operationOf, operationIn, workIn, partyKnown, strayParty, partyIn};
+ghost use Rattle.layout.specs.Reading.{bodyOf, messageKnown, strayHeld, fullIn, heldOf, slotIn};
+ghost use Rattle.layout.specs.Reading.{entryKnown, lineKnown, lineIn, linesIn, entryCount, countIn, powerOf, settingsIn, rackOf};
+ghost use Rattle.layout.specs.Writing.{pairWords, noPair, phaseWord, holdingWords, heldWords, openWords, operationWords, workWords, flag, partyWords};
+ghost use Rattle.layout.specs.Writing.{bodyKind, bodyWords, slotWords, putFirsts, headOf, partiesPut, pairWritten, pairsPut, entryIn, writtenOf};
 ghost use Rattle.layout.specs.Calls.{madeOutcome, runOutcome};
 use layout::WordsAnswer;
 use method::Body;
 use method::Goal;
+use method::Holding;
 use method::InSlot;
 use method::Message;
+use method::Operation;
 use method::Party;
+use method::Phase;
 use method::Work;
 use rack::Line;
 use rack::Rack;
@@ -110,7 +115,7 @@ fn set_of(word: u32) -> u16
 }
 
 fn pair_at(words: &[u32], at: usize) -> Pair
-    requires { ⌜ at + 3 ≤ length (now words) ⌝ }
+    requires { ⌜ at + pairSize ≤ length (now words) ⌝ }
     ensures { λ r. ⌜ r ≡ pairIn (now (words .entry)) at ⌝ }
 {
     let rank = byte_at(words, at + 1);
@@ -135,37 +140,58 @@ fn goal_of(goal: u32, value: u32) -> Goal
     Goal::Write(v)
 }
 
-fn work_of(phase: u32, cell: u32, goal: Goal, set: u32, held: Pair) -> Work
-    ensures { λ r. ⌜ r ≡ workOf phase cell goal set held ⌝ }
+// Nothing is held while nobody has told.
+fn holding_of(set: u16, pair: Pair) -> Holding
+    ensures { λ r. ⌜ r ≡ holdingOf set pair ⌝ }
+{
+    if set == 0 {
+        return Holding::NoPair;
+    }
+    Holding::Holds(pair)
+}
+
+fn phase_of(phase: u32, set: u16, pair: Pair) -> Phase
+    ensures { λ r. ⌜ r ≡ phaseOf phase set pair ⌝ }
+{
+    if phase == 1 {
+        let held = holding_of(set, pair);
+        return Phase::Asking(held);
+    }
+    Phase::Keeping(pair)
+}
+
+fn operation_of(phase: u32, cell: u32, goal: Goal, set: u32, pair: Pair) -> Operation
+    ensures { λ r. ⌜ r ≡ operationOf phase cell goal set pair ⌝ }
 {
     let x = byte(cell);
     let s = set_of(set);
-    if phase == 1 {
-        return Work::Asking {
-            cell: Cell(x),
-            goal: goal,
-            set: s,
-            held: held,
-        };
-    }
-    Work::Keeping {
+    let now = phase_of(phase, s, pair);
+    Operation {
         cell: Cell(x),
         goal: goal,
+        phase: now,
         set: s,
-        held: held,
     }
 }
 
+fn operation_at(words: &[u32], at: usize) -> Operation
+    requires { ⌜ at + workSize ≤ length (now words) ⌝ }
+    ensures { λ r. ⌜ r ≡ operationIn (now (words .entry)) at ⌝ }
+{
+    let goal = goal_of(words[at + 2], words[at + 3]);
+    let pair = pair_at(words, at + 5);
+    operation_of(words[at], words[at + 1], goal, words[at + 4], pair)
+}
+
 fn work_at(words: &[u32], at: usize) -> Work
-    requires { ⌜ at + 8 ≤ length (now words) ⌝ }
+    requires { ⌜ at + workSize ≤ length (now words) ⌝ }
     ensures { λ r. ⌜ r ≡ workIn (now (words .entry)) at ⌝ }
 {
     if words[at] == 0 {
         return Work::Idle;
     }
-    let goal = goal_of(words[at + 2], words[at + 3]);
-    let held = pair_at(words, at + 5);
-    work_of(words[at], words[at + 1], goal, words[at + 4], held)
+    let operation = operation_at(words, at);
+    Work::Open(operation)
 }
 
 fn party_known(stopped: u32, op: u32, phase: u32, goal: u32) -> bool
@@ -191,25 +217,25 @@ fn stray_party() -> Party
     ensures { λ r. ⌜ r ≡ strayParty ⌝ }
 {
     let stamp = Stamp { number: 0, rank: 0 };
-    let held = Pair {
+    let pair = Pair {
         stamp: stamp,
         value: 0,
     };
-    let work = Work::Keeping {
+    let operation = Operation {
         cell: Cell(STRAY),
         goal: Goal::Read,
+        phase: Phase::Keeping(pair),
         set: 0,
-        held: held,
     };
     Party {
         stopped: false,
         op: 0,
-        work: work,
+        work: Work::Open(operation),
     }
 }
 
 fn party_at(words: &[u32], at: usize) -> Party
-    requires { ⌜ at + 10 ≤ length (now words) ⌝ }
+    requires { ⌜ at + partySize ≤ length (now words) ⌝ }
     ensures { λ r. ⌜ r ≡ partyIn (now (words .entry)) at ⌝ }
 {
     if party_known(words[at], words[at + 1], words[at + 2], words[at + 4]) {
@@ -264,7 +290,7 @@ fn stray_held() -> InSlot
 }
 
 fn full_at(words: &[u32], at: usize) -> InSlot
-    requires { ⌜ (at + 9 ≤ length (now words)) × (getD (now words) (at + 5) 0 < 65536) ⌝ }
+    requires { ⌜ (at + slotSize ≤ length (now words)) × (getD (now words) (at + 5) 0 < opLimit) ⌝ }
     ensures { λ r. ⌜ r ≡ fullIn (now (words .entry)) at ⌝ }
 {
     let client = byte_at(words, at + 2);
@@ -282,7 +308,7 @@ fn full_at(words: &[u32], at: usize) -> InSlot
 }
 
 fn held_at(words: &[u32], at: usize) -> InSlot
-    requires { ⌜ at + 9 ≤ length (now words) ⌝ }
+    requires { ⌜ at + slotSize ≤ length (now words) ⌝ }
     ensures { λ r. ⌜ r ≡ heldOf (now (words .entry)) at ⌝ }
 {
     if words[at] == 0 {
@@ -311,7 +337,7 @@ fn entry_of(kind: u32, client: Client, cell: Cell, value: u32) -> Entry
 }
 
 fn line_at(words: &[u32], at: usize) -> Line
-    requires { ⌜ at + 4 ≤ length (now words) ⌝ }
+    requires { ⌜ at + entrySize ≤ length (now words) ⌝ }
     ensures { λ r. ⌜ r ≡ lineIn (now (words .entry)) at ⌝ }
 {
     let client = byte_at(words, at + 1);
@@ -372,7 +398,7 @@ fn pairs_of(words: &[u32]) -> [Pair; Rack::PAIRS]
 }
 
 fn slot_at(words: &[u32], at: usize) -> Slot
-    requires { ⌜ at + 9 ≤ length (now words) ⌝ }
+    requires { ⌜ at + slotSize ≤ length (now words) ⌝ }
     ensures { λ r. ⌜ r ≡ slotIn (now (words .entry)) at ⌝ }
 {
     let held = held_at(words, at);
@@ -461,7 +487,7 @@ fn power_of(word: u32) -> u16
 }
 
 fn replicas_of(replicas: u32, power: u32) -> u8
-    ensures { λ r. ⌜ r ≡ cond (ltb power 32768) (byteOf replicas) 255 ⌝ }
+    ensures { λ r. ⌜ r ≡ cond (ltb power powerLimit) (byteOf replicas) strayNumber ⌝ }
 {
     if power < POWER_LIMIT {
         return byte(replicas);
@@ -469,9 +495,9 @@ fn replicas_of(replicas: u32, power: u32) -> u8
     STRAY
 }
 
-fn sizes_of(words: &[u32]) -> Settings
+fn settings_of(words: &[u32]) -> Settings
     requires { ⌜ length (now words) ≡ wordCount ⌝ }
-    ensures { λ r. ⌜ r ≡ sizesIn (now (words .entry)) ⌝ }
+    ensures { λ r. ⌜ r ≡ settingsIn (now (words .entry)) ⌝ }
 {
     let replicas = replicas_of(words[0], words[3]);
     let clients = byte_at(words, 1);
@@ -488,7 +514,7 @@ fn load(words: &[u32]) -> Rack
     requires { ⌜ length (now words) ≡ wordCount ⌝ }
     ensures { λ r. ⌜ r ≡ rackOf (now (words .entry)) ⌝ }
 {
-    let settings = sizes_of(words);
+    let settings = settings_of(words);
     let power = power_of(words[3]);
     let n = count_of(words);
     let count = count_in(words, n);
@@ -522,7 +548,7 @@ fn put(words: &mut [u32], at: usize, new: &[u32])
 }
 
 fn put_pair(words: &mut [u32], at: usize, pair: Pair)
-    requires { ⌜ at + 3 ≤ length (now words) ⌝ }
+    requires { ⌜ at + pairSize ≤ length (now words) ⌝ }
     ensures { λ r. ⌜ now (words .exit) ≡ sets (now (words .entry)) at (pairWords pair) ⌝ }
 {
     let stamp = pair.stamp;
@@ -535,7 +561,7 @@ fn put_pair(words: &mut [u32], at: usize, pair: Pair)
 }
 
 fn put_no_pair(words: &mut [u32], at: usize)
-    requires { ⌜ at + 3 ≤ length (now words) ⌝ }
+    requires { ⌜ at + pairSize ≤ length (now words) ⌝ }
     ensures { λ r. ⌜ now (words .exit) ≡ sets (now (words .entry)) at noPair ⌝ }
 {
     let three = [0u32, 0, 0];
@@ -558,18 +584,48 @@ fn put_open(words: &mut [u32], at: usize, phase: u32, cell: Cell, goal: Goal, se
     }
 }
 
-fn put_told(words: &mut [u32], at: usize, set: u16, held: Pair)
-    requires { ⌜ at + 3 ≤ length (now words) ⌝ }
-    ensures { λ r. ⌜ now (words .exit) ≡ sets (now (words .entry)) at (toldWords set held) ⌝ }
+fn phase_word(phase: Phase) -> u32
+    ensures { λ r. ⌜ r ≡ phaseWord phase ⌝ }
 {
-    if set == 0 {
-        return put_no_pair(words, at);
+    match phase {
+        Phase::Asking(_) => 1,
+        Phase::Keeping(_) => 2,
     }
-    put_pair(words, at, held)
+}
+
+fn put_holding(words: &mut [u32], at: usize, held: Holding)
+    requires { ⌜ at + pairSize ≤ length (now words) ⌝ }
+    ensures { λ r. ⌜ now (words .exit) ≡ sets (now (words .entry)) at (holdingWords held) ⌝ }
+{
+    match held {
+        Holding::NoPair => put_no_pair(words, at),
+        Holding::Holds(pair) => put_pair(words, at, pair),
+    }
+}
+
+fn put_held(words: &mut [u32], at: usize, phase: Phase)
+    requires { ⌜ at + pairSize ≤ length (now words) ⌝ }
+    ensures { λ r. ⌜ now (words .exit) ≡ sets (now (words .entry)) at (heldWords phase) ⌝ }
+{
+    match phase {
+        Phase::Asking(held) => put_holding(words, at, held),
+        Phase::Keeping(pair) => put_pair(words, at, pair),
+    }
+}
+
+fn put_operation(words: &mut [u32], at: usize, operation: Operation)
+    requires { ⌜ at + workSize ≤ length (now words) ⌝ }
+    ensures { λ r. ⌜ now (words .exit) ≡ sets (now (words .entry)) at (operationWords operation) ⌝ }
+{
+    let phase = operation.phase;
+    let cell = operation.cell;
+    let goal = operation.goal;
+    put_open(words, at, phase_word(phase), cell, goal, operation.set);
+    put_held(words, at + 5, phase)
 }
 
 fn put_work(words: &mut [u32], at: usize, work: Work)
-    requires { ⌜ at + 8 ≤ length (now words) ⌝ }
+    requires { ⌜ at + workSize ≤ length (now words) ⌝ }
     ensures { λ r. ⌜ now (words .exit) ≡ sets (now (words .entry)) at (workWords work) ⌝ }
 {
     match work {
@@ -577,24 +633,7 @@ fn put_work(words: &mut [u32], at: usize, work: Work)
             let eight = [0u32; WORK_WORDS];
             put(words, at, &eight)
         }
-        Work::Asking {
-            cell,
-            goal,
-            set,
-            held,
-        } => {
-            put_open(words, at, 1, cell, goal, set);
-            put_told(words, at + 5, set, held)
-        }
-        Work::Keeping {
-            cell,
-            goal,
-            set,
-            held,
-        } => {
-            put_open(words, at, 2, cell, goal, set);
-            put_pair(words, at + 5, held)
-        }
+        Work::Open(operation) => put_operation(words, at, operation),
     }
 }
 
@@ -608,7 +647,7 @@ fn flag(b: bool) -> u32
 }
 
 fn put_party(words: &mut [u32], at: usize, party: Party)
-    requires { ⌜ at + 10 ≤ length (now words) ⌝ }
+    requires { ⌜ at + partySize ≤ length (now words) ⌝ }
     ensures { λ r. ⌜ now (words .exit) ≡ sets (now (words .entry)) at (partyWords party) ⌝ }
 {
     let two = [flag(party.stopped), party.op as u32];
@@ -629,7 +668,7 @@ fn body_kind(body: Body) -> u32
 }
 
 fn put_body(words: &mut [u32], at: usize, body: Body)
-    requires { ⌜ at + 3 ≤ length (now words) ⌝ }
+    requires { ⌜ at + pairSize ≤ length (now words) ⌝ }
     ensures { λ r. ⌜ now (words .exit) ≡ sets (now (words .entry)) at (bodyWords body) ⌝ }
 {
     match body {
@@ -641,7 +680,7 @@ fn put_body(words: &mut [u32], at: usize, body: Body)
 }
 
 fn put_message(words: &mut [u32], at: usize, m: Message)
-    requires { ⌜ at + 9 ≤ length (now words) ⌝ }
+    requires { ⌜ at + slotSize ≤ length (now words) ⌝ }
     ensures { λ r. ⌜ now (words .exit) ≡ sets (now (words .entry)) at (slotWords (InSlot.Full m)) ⌝ }
 {
     let client = m.client;
@@ -661,7 +700,7 @@ fn put_message(words: &mut [u32], at: usize, m: Message)
 }
 
 fn put_slot(words: &mut [u32], at: usize, held: InSlot)
-    requires { ⌜ at + 9 ≤ length (now words) ⌝ }
+    requires { ⌜ at + slotSize ≤ length (now words) ⌝ }
     ensures { λ r. ⌜ now (words .exit) ≡ sets (now (words .entry)) at (slotWords held) ⌝ }
 {
     match held {
@@ -674,7 +713,7 @@ fn put_slot(words: &mut [u32], at: usize, held: InSlot)
 }
 
 fn put_entry(words: &mut [u32], at: usize, entry: Entry)
-    requires { ⌜ at + 4 ≤ length (now words) ⌝ }
+    requires { ⌜ at + entrySize ≤ length (now words) ⌝ }
     ensures { λ r. ⌜ now (words .exit) ≡ sets (now (words .entry)) at (rowOf entry) ⌝ }
 {
     rows::store_row(words, at, entry);

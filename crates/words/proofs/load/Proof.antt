@@ -4,8 +4,8 @@ use borrow.Author.Needs.{needs}
 use Rattle.words.proofs.load.Statement.{statement}
 use Rattle.words.proofs.load.Tie as tie
 
-sizes-of-requires : tie.Need-sizes-of-requires
-sizes-of-requires c κs = search needs
+settings-of-requires : tie.Need-settings-of-requires
+settings-of-requires c κs = search needs
 
 shared-slice-read-power-of : tie.Need-shared-slice-read-power-of
 shared-slice-read-power-of c = search needs
@@ -41,14 +41,14 @@ returns c = rw (
   c .before .before .before .before .count-in .ensures,
   c .before .before .before .before .before .count-of .ensures .0,
   c .before .before .before .before .before .before .power-of .ensures,
-  c .before .before .before .before .before .before .before .before .sizes-of .ensures,
+  c .before .before .before .before .before .before .before .before .settings-of .ensures,
 )
 
 pub load-spec : {M : Type 1} → statement M
 load-spec =
     tie.close
     (tie.spec
-    sizes-of-requires
+    settings-of-requires
     shared-slice-read-power-of
     power-of-requires
     count-of-requires

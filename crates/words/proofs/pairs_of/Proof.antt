@@ -1,5 +1,6 @@
 -- `words::pairs_of` meets its contract.
 use Prim.Native.Nat.{_-_}
+use Rattle.rack.specs.Places.{pairLimit}
 use Rattle.layout.specs.Layout.{pairPlace}
 use Rattle.layout.specs.Reading.{pairIn}
 use Rattle.words.proofs.Reading.{Filling, fills, fills-on, fills-all}
@@ -9,10 +10,10 @@ use Rattle.words.proofs.pairs_of.Statement.{statement}
 use Rattle.words.proofs.pairs_of.Tie as tie
 
 abbrev Inv-loop : tie.InvT-loop
-Inv-loop words pairs₀ i₀ pairs i = Filling (λ j. pairIn words (pairPlace j)) 240 pairs₀ pairs i
+Inv-loop words pairs₀ i₀ pairs i = Filling (λ j. pairIn words (pairPlace j)) pairLimit pairs₀ pairs i
 
 abbrev μ-loop : tie.MeasureT-loop
-μ-loop words pairs₀ i₀ pairs i = 240 - i
+μ-loop words pairs₀ i₀ pairs i = pairLimit - i
 
 loop-holds : tie.Need-loop-holds Inv-loop μ-loop
 loop-holds c = fills _ _ _ (omega arith)

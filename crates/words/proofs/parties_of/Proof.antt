@@ -1,5 +1,6 @@
 -- `words::parties_of` meets its contract.
 use Prim.Native.Nat.{_-_}
+use Rattle.record.specs.Entry.{clientLimit}
 use Rattle.layout.specs.Layout.{partyPlace}
 use Rattle.layout.specs.Reading.{partyIn}
 use Rattle.words.proofs.Reading.{Filling, fills, fills-on, fills-all}
@@ -9,10 +10,10 @@ use Rattle.words.proofs.parties_of.Statement.{statement}
 use Rattle.words.proofs.parties_of.Tie as tie
 
 abbrev Inv-loop : tie.InvT-loop
-Inv-loop words parties₀ i₀ parties i = Filling (λ j. partyIn words (partyPlace j)) 8 parties₀ parties i
+Inv-loop words parties₀ i₀ parties i = Filling (λ j. partyIn words (partyPlace j)) clientLimit parties₀ parties i
 
 abbrev μ-loop : tie.MeasureT-loop
-μ-loop words parties₀ i₀ parties i = 8 - i
+μ-loop words parties₀ i₀ parties i = clientLimit - i
 
 stray-party-requires : tie.Need-stray-party-requires Inv-loop μ-loop
 stray-party-requires c κs = search needs

@@ -2,7 +2,7 @@
 use Prim.Native.Nat.{_-_}
 use Rattle.layout.specs.Layout.{slotPlace}
 use Rattle.words.proofs.Writing.{Storing, stores, stores-long, stores-on, stores-end}
-use Rattle.rack.specs.Places.{heldIn}
+use Rattle.rack.specs.Places.{slotLimit, heldIn}
 use Rattle.layout.specs.Writing.{slotWords}
 use borrow.Author.Needs.{needs}
 use native.Mathlib.Omega.{arith}
@@ -10,10 +10,10 @@ use Rattle.words.proofs.put_wire.Statement.{statement}
 use Rattle.words.proofs.put_wire.Tie as tie
 
 abbrev Inv-loop : tie.InvT-loop
-Inv-loop words₀ wire i₀ words i = Storing slotPlace (λ j. slotWords (heldIn wire j)) 256 words₀ words i
+Inv-loop words₀ wire i₀ words i = Storing slotPlace (λ j. slotWords (heldIn wire j)) slotLimit words₀ words i
 
 abbrev μ-loop : tie.MeasureT-loop
-μ-loop words₀ wire i₀ words i = 256 - i
+μ-loop words₀ wire i₀ words i = slotLimit - i
 
 loop-holds : tie.Need-loop-holds Inv-loop μ-loop
 loop-holds c = stores _ _ _ _

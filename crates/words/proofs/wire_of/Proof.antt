@@ -1,5 +1,6 @@
 -- `words::wire_of` meets its contract.
 use Prim.Native.Nat.{_-_}
+use Rattle.rack.specs.Places.{slotLimit}
 use Rattle.layout.specs.Layout.{slotPlace}
 use Rattle.layout.specs.Reading.{slotIn}
 use Rattle.words.proofs.Reading.{Filling, fills, fills-on, fills-all}
@@ -9,10 +10,10 @@ use Rattle.words.proofs.wire_of.Statement.{statement}
 use Rattle.words.proofs.wire_of.Tie as tie
 
 abbrev Inv-loop : tie.InvT-loop
-Inv-loop words wire₀ i₀ wire i = Filling (λ j. slotIn words (slotPlace j)) 256 wire₀ wire i
+Inv-loop words wire₀ i₀ wire i = Filling (λ j. slotIn words (slotPlace j)) slotLimit wire₀ wire i
 
 abbrev μ-loop : tie.MeasureT-loop
-μ-loop words wire₀ i₀ wire i = 256 - i
+μ-loop words wire₀ i₀ wire i = slotLimit - i
 
 loop-holds : tie.Need-loop-holds Inv-loop μ-loop
 loop-holds c = fills _ _ _ (omega arith)

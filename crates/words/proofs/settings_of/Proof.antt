@@ -1,8 +1,8 @@
--- `words::sizes_of` meets its contract.
-use Rattle.layout.specs.Reading.{sizesIn}
+-- `words::settings_of` meets its contract.
+use Rattle.layout.specs.Reading.{settingsIn}
 use borrow.Author.Needs.{needs}
-use Rattle.words.proofs.sizes_of.Statement.{statement}
-use Rattle.words.proofs.sizes_of.Tie as tie
+use Rattle.words.proofs.settings_of.Statement.{statement}
+use Rattle.words.proofs.settings_of.Tie as tie
 
 shared-slice-read-replicas-of : tie.Need-shared-slice-read-replicas-of
 shared-slice-read-replicas-of c = search needs
@@ -20,11 +20,11 @@ byte-at-requires-2 : tie.Need-byte-at-requires-2
 byte-at-requires-2 c κs = search needs
 
 returns : tie.Need-returns
-unfolding sizesIn
+unfolding settingsIn
 returns c = rw (c .byte-at2 .ensures, c .before .byte-at .ensures, c .before .before .replicas-of .ensures)
 
-pub sizes-of-spec : {M : Type 1} → statement M
-sizes-of-spec =
+pub settings-of-spec : {M : Type 1} → statement M
+settings-of-spec =
     tie.close
     (tie.spec
     shared-slice-read-replicas-of
