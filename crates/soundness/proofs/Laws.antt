@@ -5,6 +5,7 @@ use mathlib.Core.Bool.{Bool, true, false}
 use native.Mathlib.Omega.{arith}
 use lib.Dec.{leb}
 use borrow.Author.Tests.{lt-leb}
+use Rattle.record.specs.Record.{entryLimit}
 use Rattle.rack.specs.declared.Rack.{Rack}
 use Rattle.rack.specs.Sound.{allBelow, owed, recordFits, owedIn}
 use Rattle.rack.specs.laws.Owed.{owed-in}
@@ -16,10 +17,10 @@ all-end n i f h l e = let q : n ≡ i = omega arith in sym (ap (λ (k : ℕ). al
 
 -- ---- the record
 
-pub record-over : (r : Rack) → 2048 < r .count → false ≡ recordFits r
+pub record-over : (r : Rack) → entryLimit < r .count → false ≡ recordFits r
 unfolding recordFits
-record-over r h = sym (lt-leb (r .count + owed r) 2048 (omega arith))
+record-over r h = sym (lt-leb (r .count + owed r) entryLimit (omega arith))
 
-pub record-is : (r : Rack) (n : ℕ) → n ≡ owedIn (r .settings .clients) (r .parties) → leb (r .count + n) 2048 ≡ recordFits r
+pub record-is : (r : Rack) (n : ℕ) → n ≡ owedIn (r .settings .clients) (r .parties) → leb (r .count + n) entryLimit ≡ recordFits r
 unfolding recordFits
-record-is r n e = ap (λ (k : ℕ). leb (r .count + k) 2048) (e ∙ sym (owed-in r))
+record-is r n e = ap (λ (k : ℕ). leb (r .count + k) entryLimit) (e ∙ sym (owed-in r))

@@ -3,13 +3,19 @@ ghost use mathlib.Core.Path.{_≡_};
 ghost use mathlib.Core.Bool.{true};
 ghost use Prim.Native.Nat.{_<_, _≤_};
 ghost use Rattle.record.specs.Entry.{clientLimit, cellLimit};
-ghost use Rattle.rack.specs.Places.{replicaLimit, pairAt};
-ghost use Rattle.rack.specs.Sound.{allBelow, settingsFit, pairFits, bodyFits, messageFits, heldFits, toldFits, askFits, keepFits, workFits, wireFits, pairsFit, partiesFit};
-ghost use Rattle.rack.specs.Sound.{recordFits, soundOf};
+ghost use lib.ListN.{getD};
+ghost use Rattle.stamps.specs.Stamp.{freshPair};
+ghost use Rattle.rack.specs.Places.{replicaLimit, pairPlace};
+ghost use Rattle.rack.specs.Sound.{allBelow, settingsFit, pairFits, bodyFits, messageFits, heldFits, quorumsOf, holdingFits, phaseFits, operationFits, workFits};
+ghost use Rattle.rack.specs.Sound.{wireFits, pairsFit, partiesFit, recordFits, soundOf};
 use method::Body;
+use method::Holding;
 use method::InSlot;
 use method::Message;
+use method::Operation;
+use method::Phase;
 use method::Work;
+use quorum::Quorums;
 use rack::Rack;
 use rack::Settings;
 use rack::maker::sizes_in;
@@ -17,7 +23,7 @@ use rack::owed::owed_by_all;
 use record::Cell;
 use stamps::Pair;
 
-fn sizes_fit(settings: Settings) -> bool
+fn settings_fit(settings: Settings) -> bool
     ensures { λ r. ⌜ r ≡ settingsFit settings ⌝ }
 {
     sizes_in(
@@ -75,64 +81,74 @@ fn held_fits(settings: Settings, held: InSlot) -> bool
     }
 }
 
-// Where an ask phase holds a pair, it names a rank that the rack has.
-fn told_fits(settings: Settings, set: u16, held: Pair) -> bool
-    ensures { λ r. ⌜ r ≡ toldFits settings set held ⌝ }
+// In the ask phase nothing is held while nobody has told, and then a pair that names a rank that the rack has.
+fn holding_fits(settings: Settings, set: u16, held: Holding) -> bool
+    ensures { λ r. ⌜ r ≡ holdingFits settings set held ⌝ }
 {
-    if set == 0 {
-        return true;
+    match held {
+        Holding::NoPair => set == 0,
+        Holding::Holds(pair) => {
+            if set == 0 {
+                return false;
+            }
+            pair_fits(settings, pair)
+        }
     }
-    pair_fits(settings, held)
 }
 
-fn ask_fits(settings: Settings, cell: Cell, set: u16, held: Pair) -> bool
-    ensures { λ r. ⌜ r ≡ askFits settings cell set held ⌝ }
+// The quorums that these settings give.
+fn quorums_of(settings: Settings) -> Quorums
+    ensures { λ r. ⌜ r ≡ quorumsOf settings ⌝ }
 {
-    if settings.cells <= cell.0 {
-        return false;
+    Quorums {
+        replicas: settings.replicas,
     }
-    if !told_fits(settings, set, held) {
+}
+
+// What is held fits, and the set isn't enough to end the phase.
+fn phase_fits(settings: Settings, set: u16, phase: Phase) -> bool
+    ensures { λ r. ⌜ r ≡ phaseFits settings set phase ⌝ }
+{
+    let quorums = quorums_of(settings);
+    match phase {
+        Phase::Asking(held) => {
+            if holding_fits(settings, set, held) {
+                return !quorum::asks_enough(quorums, set);
+            }
+            false
+        }
+        Phase::Keeping(held) => {
+            if pair_fits(settings, held) {
+                return !quorum::keeps_enough(quorums, set);
+            }
+            false
+        }
+    }
+}
+
+// An open operation's cell is of this rack, its set has no replica that isn't there, and its phase fits.
+fn operation_fits(settings: Settings, operation: Operation) -> bool
+    ensures { λ r. ⌜ r ≡ operationFits settings operation ⌝ }
+{
+    let cell = operation.cell;
+    let set = operation.set;
+    let phase = operation.phase;
+    if settings.cells <= cell.0 {
         return false;
     }
     if !quorum::within(settings.replicas, set) {
         return false;
     }
-    !quorum::asks_enough(settings.replicas, set)
+    phase_fits(settings, set, phase)
 }
 
-fn keep_fits(settings: Settings, cell: Cell, set: u16, held: Pair) -> bool
-    ensures { λ r. ⌜ r ≡ keepFits settings cell set held ⌝ }
-{
-    if settings.cells <= cell.0 {
-        return false;
-    }
-    if !pair_fits(settings, held) {
-        return false;
-    }
-    if !quorum::within(settings.replicas, set) {
-        return false;
-    }
-    !quorum::keeps_enough(settings.replicas, set)
-}
-
-// An open operation names what the rack has; its set has no replica that isn't there, and is no majority.
+// A client without an open operation fits.
 fn work_fits(settings: Settings, work: Work) -> bool
     ensures { λ r. ⌜ r ≡ workFits settings work ⌝ }
 {
     match work {
         Work::Idle => true,
-        Work::Asking {
-            cell,
-            goal: _,
-            set,
-            held,
-        } => ask_fits(settings, cell, set, held),
-        Work::Keeping {
-            cell,
-            goal: _,
-            set,
-            held,
-        } => keep_fits(settings, cell, set, held),
+        Work::Open(operation) => operation_fits(settings, operation),
     }
 }
 
@@ -153,16 +169,15 @@ fn wire_fits(rack: Rack) -> bool
     true
 }
 
-// A replica's pair for every cell.
-fn replica_fits(rack: Rack, k: usize) -> bool
-    requires { ⌜ (k < replicaLimit) × (rack .settings .cells ≤ cellLimit) ⌝ }
-    ensures { λ r. ⌜ r ≡ allBelow (rack .settings .cells) (λ x. pairFits (rack .settings) (pairAt rack k x)) ⌝ }
+// A replica's pair for every cell. It gets the pairs alone: the whole rack would be copied for each replica.
+fn replica_fits(settings: Settings, pairs: [Pair; Rack::PAIRS], k: usize) -> bool
+    requires { ⌜ (k < replicaLimit) × (settings .cells ≤ cellLimit) ⌝ }
+    ensures { λ r. ⌜ r ≡ allBelow (settings .cells) (λ x. pairFits settings (getD pairs (pairPlace k x) freshPair)) ⌝ }
 {
-    let settings = rack.settings;
     let n = settings.cells as usize;
     let mut x: usize = 0;
     while x < n {
-        let pair = rack.pairs[Cell::LIMIT * k + x];
+        let pair = pairs[Cell::LIMIT * k + x];
         if !pair_fits(settings, pair) {
             return false;
         }
@@ -180,7 +195,8 @@ fn pairs_fit(rack: Rack) -> bool
     let n = settings.replicas as usize;
     let mut k: usize = 0;
     while k < n {
-        if !replica_fits(rack, k) {
+        let pairs = rack.pairs;
+        if !replica_fits(settings, pairs, k) {
             return false;
         }
         k += 1;
@@ -220,7 +236,7 @@ fn record_fits(rack: Rack) -> bool
     count + owed_by_all(parties, settings.clients) <= Rack::ENTRIES
 }
 
-// Whether a rack of permitted sizes is sound.
+// Whether a rack whose settings fit is sound.
 fn parts_fit(rack: Rack) -> bool
     requires { ⌜ settingsFit (rack .settings) ≡ true ⌝ }
     ensures { λ r. ⌜ r ≡ soundOf rack ⌝ }
@@ -242,7 +258,7 @@ pub fn sound(rack: Rack) -> bool
     ensures { λ r. ⌜ r ≡ soundOf rack ⌝ }
 {
     let settings = rack.settings;
-    if sizes_fit(settings) {
+    if settings_fit(settings) {
         return parts_fit(rack);
     }
     false

@@ -12,10 +12,10 @@ use Rattle.soundness.proofs.pairs_fit.Statement.{statement}
 use Rattle.soundness.proofs.pairs_fit.Tie as tie
 
 abbrev Inv-loop : tie.InvT-loop
-Inv-loop rack n k₀ k = (k ≤ rack .settings .replicas) × (allBelow k (λ j. allBelow (rack .settings .cells) (λ y. pairFits (rack .settings) (pairAt rack j y))) ≡ true)
+Inv-loop rack settings n k₀ k = (k ≤ rack .settings .replicas) × (allBelow k (λ j. allBelow (rack .settings .cells) (λ y. pairFits (rack .settings) (pairAt rack j y))) ≡ true)
 
 abbrev μ-loop : tie.MeasureT-loop
-μ-loop rack n k₀ k = rack .settings .replicas - k
+μ-loop rack settings n k₀ k = rack .settings .replicas - k
 
 cast-n : tie.Need-cast-n Inv-loop μ-loop
 cast-n c = search needs
@@ -28,7 +28,8 @@ replica-fits-requires c κs = search needs
 
 returns : tie.Need-returns Inv-loop μ-loop
 unfolding pairsFit
-returns c = sym (all-fail _ (c .before .before .before .loop .k) _ (c .before .before .loop-test .taken) (sym (c .before .replica-fits .ensures) ∙ not-true _ (c .if1 .taken)))
+returns c = sym (all-fail _ (c .before .before .before .before .loop .k) _ (c .before .before .before .loop-test .taken) (sym (c .before .replica-fits .ensures)
+    ∙ not-true _ (c .if1 .taken)))
 
 add-k : tie.Need-add-k Inv-loop μ-loop
 add-k c = search needs
@@ -39,7 +40,7 @@ loop-less c = search needs
 loop-again : tie.Need-loop-again Inv-loop μ-loop
 loop-again c = (
   search needs,
-  all-next (c .before .before .before .loop .k) _ (c .before .before .before .loop .inv .1) (sym (c .before .replica-fits .ensures)
+  all-next (c .before .before .before .before .loop .k) _ (c .before .before .before .before .loop .inv .1) (sym (c .before .replica-fits .ensures)
       ∙ not-false _ (c .if1 .left)),
 )
 

@@ -12,10 +12,10 @@ use Rattle.soundness.proofs.parties_fit.Statement.{statement}
 use Rattle.soundness.proofs.parties_fit.Tie as tie
 
 abbrev Inv-loop : tie.InvT-loop
-Inv-loop rack sizes n i₀ i = (i ≤ rack .settings .clients) × (allBelow i (λ j. workFits (rack .settings) (partyAt rack j .work)) ≡ true)
+Inv-loop rack settings n i₀ i = (i ≤ rack .settings .clients) × (allBelow i (λ j. workFits (rack .settings) (partyAt rack j .work)) ≡ true)
 
 abbrev μ-loop : tie.MeasureT-loop
-μ-loop rack sizes n i₀ i = rack .settings .clients - i
+μ-loop rack settings n i₀ i = rack .settings .clients - i
 
 cast-n : tie.Need-cast-n Inv-loop μ-loop
 cast-n c = search needs

@@ -4,7 +4,9 @@ use mathlib.Core.Path.{_≡_, sym, _∙_}
 use mathlib.Core.Bool.{true}
 use borrow.Author.Needs.{needs}
 use borrow.Author.Tests.{not-true, not-false}
-use Rattle.rack.specs.Places.{pairAt}
+use lib.ListN.{getD}
+use Rattle.stamps.specs.Stamp.{freshPair}
+use Rattle.rack.specs.Places.{pairPlace}
 use Rattle.rack.specs.Sound.{allBelow, pairFits}
 use Rattle.rack.specs.laws.Tests.{all-none, all-next, all-fail}
 use Rattle.soundness.proofs.Laws.{all-end}
@@ -12,10 +14,10 @@ use Rattle.soundness.proofs.replica_fits.Statement.{statement}
 use Rattle.soundness.proofs.replica_fits.Tie as tie
 
 abbrev Inv-loop : tie.InvT-loop
-Inv-loop k rack sizes n x₀ x = (x ≤ rack .settings .cells) × (allBelow x (λ y. pairFits (rack .settings) (pairAt rack k y)) ≡ true)
+Inv-loop settings k pairs n x₀ x = (x ≤ settings .cells) × (allBelow x (λ y. pairFits settings (getD pairs (pairPlace k y) freshPair)) ≡ true)
 
 abbrev μ-loop : tie.MeasureT-loop
-μ-loop k rack sizes n x₀ x = rack .settings .cells - x
+μ-loop settings k pairs n x₀ x = settings .cells - x
 
 cast-n : tie.Need-cast-n Inv-loop μ-loop
 cast-n c = search needs
@@ -32,8 +34,8 @@ add-pair c = search needs
 mul-pair-2 : tie.Need-mul-pair-2 Inv-loop μ-loop
 mul-pair-2 c = search needs
 
-element-copy-out-pair : tie.Need-element-copy-out-pair Inv-loop μ-loop
-element-copy-out-pair c = search needs
+array-copy-out-pair : tie.Need-array-copy-out-pair Inv-loop μ-loop
+array-copy-out-pair c = search needs
 
 pair-fits-requires : tie.Need-pair-fits-requires Inv-loop μ-loop
 pair-fits-requires c κs = search needs
@@ -69,7 +71,7 @@ replica-fits-spec =
     mul-pair
     add-pair
     mul-pair-2
-    element-copy-out-pair
+    array-copy-out-pair
     pair-fits-requires
     returns
     add-x

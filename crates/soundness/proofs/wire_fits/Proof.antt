@@ -4,7 +4,7 @@ use mathlib.Core.Path.{_≡_, sym, _∙_}
 use mathlib.Core.Bool.{true}
 use borrow.Author.Needs.{needs}
 use borrow.Author.Tests.{not-true, not-false}
-use Rattle.rack.specs.Places.{heldAt}
+use Rattle.rack.specs.Places.{slotLimit, heldAt}
 use Rattle.rack.specs.Sound.{allBelow, heldFits, wireFits}
 use Rattle.rack.specs.laws.Tests.{all-none, all-next, all-fail}
 use Rattle.soundness.proofs.Laws.{all-end}
@@ -12,10 +12,10 @@ use Rattle.soundness.proofs.wire_fits.Statement.{statement}
 use Rattle.soundness.proofs.wire_fits.Tie as tie
 
 abbrev Inv-loop : tie.InvT-loop
-Inv-loop rack sizes i₀ i = (i ≤ 256) × (allBelow i (λ j. heldFits (rack .settings) (heldAt rack j)) ≡ true)
+Inv-loop rack settings i₀ i = (i ≤ slotLimit) × (allBelow i (λ j. heldFits (rack .settings) (heldAt rack j)) ≡ true)
 
 abbrev μ-loop : tie.MeasureT-loop
-μ-loop rack sizes i₀ i = 256 - i
+μ-loop rack settings i₀ i = slotLimit - i
 
 loop-holds : tie.Need-loop-holds Inv-loop μ-loop
 loop-holds c = (search needs, all-none _)
@@ -31,7 +31,7 @@ held-fits-requires c κs = search needs
 
 returns : tie.Need-returns Inv-loop μ-loop
 unfolding wireFits
-returns c = sym (all-fail 256 (c .before .before .before .before .loop .i) _ (c .before .before .before .loop-test .taken) (sym (c .before .held-fits .ensures)
+returns c = sym (all-fail slotLimit (c .before .before .before .before .loop .i) _ (c .before .before .before .loop-test .taken) (sym (c .before .held-fits .ensures)
     ∙ not-true _ (c .if1 .taken)))
 
 add-i : tie.Need-add-i Inv-loop μ-loop
@@ -49,7 +49,7 @@ loop-again c = (
 
 returns-2 : tie.Need-returns-2 Inv-loop μ-loop
 unfolding wireFits
-returns-2 c = all-end 256 (c .before .loop .i) _ (c .loop-test .left) (c .before .loop .inv .0) (c .before .loop .inv .1)
+returns-2 c = all-end slotLimit (c .before .loop .i) _ (c .loop-test .left) (c .before .loop .inv .0) (c .before .loop .inv .1)
 
 pub wire-fits-spec : {M : Type 1} → statement M
 wire-fits-spec =

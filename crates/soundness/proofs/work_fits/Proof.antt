@@ -10,14 +10,8 @@ enum-told c = search needs
 enum-known-work : tie.Need-enum-known-work
 enum-known-work c = search needs
 
-ask-fits-requires : tie.Need-ask-fits-requires
-ask-fits-requires c κs = search needs
-
-enum-known-work-2 : tie.Need-enum-known-work-2
-enum-known-work-2 c = search needs
-
-keep-fits-requires : tie.Need-keep-fits-requires
-keep-fits-requires c κs = search needs
+operation-fits-requires : tie.Need-operation-fits-requires
+operation-fits-requires c κs = search needs
 
 returns : tie.Need-returns
 unfolding workFits
@@ -25,21 +19,8 @@ returns c = rw (c .enum-told .given .1)
 
 returns-2 : tie.Need-returns-2
 unfolding workFits
-returns-2 c = rw (c .ask-fits .ensures, c .before .before .work .given .1)
-
-returns-3 : tie.Need-returns-3
-unfolding workFits
-returns-3 c = rw (c .keep-fits .ensures, c .before .before .work2 .given .1)
+returns-2 c = rw (c .operation-fits .ensures, c .before .before .work .given .1)
 
 pub work-fits-spec : {M : Type 1} → statement M
 work-fits-spec =
-    tie.close
-    (tie.spec
-    enum-told
-    enum-known-work
-    ask-fits-requires
-    enum-known-work-2
-    keep-fits-requires
-    returns
-    returns-2
-    returns-3)
+    tie.close (tie.spec enum-told enum-known-work operation-fits-requires returns returns-2)
