@@ -14,8 +14,12 @@ use Rattle.method.specs.declared.InSlot.{InSlot}
 use Rattle.method.specs.declared.InSlot.the-variants.{Empty, Full}
 use Rattle.method.specs.declared.Goal.{Goal}
 use Rattle.method.specs.declared.Goal.the-variants.{Read, Write}
+use Rattle.method.specs.declared.Holding.{Holding}
+use Rattle.method.specs.declared.Holding.the-variants.{NoPair, Holds}
+use Rattle.method.specs.declared.Phase.{Phase}
+use Rattle.method.specs.declared.Phase.the-variants.{Asking, Keeping}
 use Rattle.method.specs.declared.Work.{Work}
-use Rattle.method.specs.declared.Work.the-variants.{Idle, Asking, Keeping}
+use Rattle.method.specs.declared.Work.the-variants.{Idle, Open}
 use Rattle.method.specs.declared.Party.{Party}
 use Rattle.rack.specs.declared.Settings.{Settings}
 use Rattle.rack.specs.declared.Rack.{Rack}
@@ -88,15 +92,25 @@ openText op cell goal set = goalText goal ++ (field cellWord cell ++ (field opWo
 abbrev pub heldText : Pair → List ℕ
 heldText p = heldWord ++ pairText p
 
--- nothing is held in the ask phase while the set is empty
-abbrev pub firstHeld : ℕ → Pair → List ℕ
-firstHeld set p = cond (eqb set 0) heldNone (heldText p)
+-- in the ask phase: nothing is held while nobody has told, and then a pair
+abbrev pub holdingText : Holding → List ℕ
+holdingText NoPair = heldNone
+holdingText (Holds p) = heldText p
 
--- idle, asking or keeping, with the open operation and the pair held
+-- the word for a phase: asking or keeping
+abbrev pub phaseWord : Phase → List ℕ
+phaseWord (Asking held) = askingWord
+phaseWord (Keeping held) = keepingWord
+
+-- what is held in a phase
+abbrev pub phaseHeld : Phase → List ℕ
+phaseHeld (Asking held) = holdingText held
+phaseHeld (Keeping held) = heldText held
+
+-- idle, or asking or keeping with the open operation and what is held
 abbrev pub workText : ℕ → Work → List ℕ
 workText op Idle = field idleWords op
-workText op (Asking cell goal set held) = askingWord ++ (openText op (cell .0) goal set ++ firstHeld set held)
-workText op (Keeping cell goal set held) = keepingWord ++ (openText op (cell .0) goal set ++ heldText held)
+workText op (Open o) = phaseWord (o .phase) ++ (openText op (o .cell .0) (o .goal) (o .set) ++ phaseHeld (o .phase))
 
 -- a word for a stopped client, nothing for another
 abbrev pub stoppedText : Bool → List ℕ

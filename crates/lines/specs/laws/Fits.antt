@@ -8,8 +8,8 @@ use lib.Dec.{eqb}
 use lib.ListN.{length, length-append, take}
 use Rattle.text.specs.Text.{decimal, field, refusedWord, lineFeed, hexText}
 use Rattle.text.specs.laws.Length.{Few, both, digits-few, value-few, hex-few}
-use Rattle.record.specs.Entry.{entryBytes}
-use Rattle.record.specs.Record.{allOf, bytesOf}
+use Rattle.record.specs.Entry.{cellLimit, entryBytes}
+use Rattle.record.specs.Record.{entryLimit, allOf, bytesOf}
 use Rattle.record.specs.laws.EntryTrip.{entry-most}
 use Rattle.quorum.specs.Sets.{setBits, hasReplica}
 use Rattle.stamps.specs.declared.Pair.{Pair}
@@ -19,19 +19,24 @@ use Rattle.method.specs.declared.InSlot.{InSlot}
 use Rattle.method.specs.declared.InSlot.the-variants.{Empty, Full}
 use Rattle.method.specs.declared.Goal.{Goal}
 use Rattle.method.specs.declared.Goal.the-variants.{Read, Write}
+use Rattle.method.specs.declared.Holding.{Holding}
+use Rattle.method.specs.declared.Holding.the-variants.{NoPair, Holds}
+use Rattle.method.specs.declared.Phase.{Phase}
+use Rattle.method.specs.declared.Phase.the-variants.{Asking, Keeping}
 use Rattle.method.specs.declared.Work.{Work}
-use Rattle.method.specs.declared.Work.the-variants.{Idle, Asking, Keeping}
+use Rattle.method.specs.declared.Work.the-variants.{Idle, Open}
 use Rattle.method.specs.declared.Party.{Party}
 use Rattle.rack.specs.declared.Line.{Line}
 use Rattle.rack.specs.declared.Settings.{Settings}
 use Rattle.rack.specs.declared.Rack.{Rack}
 use Rattle.rack.specs.declared.Ran.{Ran}
-use Rattle.rack.specs.Places.{partyAt, pairAt, heldAt, recordOf}
+use Rattle.rack.specs.Places.{slotLimit, partyAt, pairAt, heldAt, recordOf}
 use Rattle.rack.specs.Sound.{soundOf}
 use Rattle.rack.specs.laws.SoundLaws.{sound-of}
-use Rattle.lines.specs.Words.{doneStart, noneWord, replicaStart, clientStart, slotStart, recordStart, space, askingWord, keepingWord, fromNone, heldNone}
-use Rattle.lines.specs.Lines.{eachBelow, pairText, kindText, bodyPair, namesText, messageText, slotLine, goalText, memberText, membersText, openText, heldText, firstHeld}
-use Rattle.lines.specs.Lines.{workText, stoppedText, clientLine, powerText, pairsText, replicaLine, sizesLine, recordLine, rackText, refusalText, ranText, faultLine}
+use Rattle.lines.specs.Words.{doneStart, noneWord, replicaStart, clientStart, slotStart, recordStart, space, fromNone}
+use Rattle.lines.specs.Lines.{eachBelow, pairText, kindText, bodyPair, namesText, messageText, slotLine, goalText, memberText, membersText, openText, heldText, holdingText}
+use Rattle.lines.specs.Lines.{phaseWord, phaseHeld, workText}
+use Rattle.lines.specs.Lines.{stoppedText, clientLine, powerText, pairsText, replicaLine, sizesLine, recordLine, rackText, refusalText, ranText, faultLine}
 
 -- ---- pairs
 
@@ -96,20 +101,24 @@ members-few set = go (eqb set 0)
 open-few : (op cell : ℕ) (goal : Goal) (set : ℕ) → Few (openText op cell goal set) 419
 open-few op cell goal set = record { few = simp length-append (omega (arith, goal-few goal .few, digits-few 20 cell .few, digits-few 20 op .few, members-few set .few)) }
 
-held-few : (set : ℕ) (p : Pair) → Few (firstHeld set p) 69
-held-few set p = go (eqb set 0)
-  where
-    go : (t : Bool) → Few (cond t heldNone (heldText p)) 69
-    go true = record { few = omega arith }
-    go false = record { few = omega (arith, pair-few p .few) }
+held-few : (p : Pair) → Few (heldText p) 69
+held-few p = record { few = omega (arith, pair-few p .few) }
+
+holding-few : (held : Holding) → Few (holdingText held) 69
+holding-few NoPair = record { few = omega arith }
+holding-few (Holds p) = held-few p
+
+phase-few : (ph : Phase) → Few (phaseWord ph) 8
+phase-few (Asking held) = record { few = omega arith }
+phase-few (Keeping held) = record { few = omega arith }
+
+phase-held-few : (ph : Phase) → Few (phaseHeld ph) 69
+phase-held-few (Asking held) = holding-few held
+phase-held-few (Keeping held) = held-few held
 
 work-few : (op : ℕ) (w : Work) → Few (workText op w) 496
 work-few op Idle = record { few = omega (arith, digits-few 20 op .few) }
-work-few op (Asking cell goal set held) =
-    let phase : Few askingWord 8 = record { few = omega arith } in both phase (both (open-few op (cell .0) goal set) (held-few set held))
-work-few op (Keeping cell goal set held) =
-    let phase : Few keepingWord 8 = record { few = omega arith } in
-    let kept : Few (heldText held) 69 = record { few = omega (arith, pair-few held .few) } in both phase (both (open-few op (cell .0) goal set) kept)
+work-few op (Open o) = both (phase-few (o .phase)) (both (open-few op (o .cell .0) (o .goal) (o .set)) (phase-held-few (o .phase)))
 
 stopped-few : (b : Bool) → Few (stoppedText b) 8
 stopped-few true = record { few = omega arith }
@@ -130,7 +139,7 @@ power-few false = record { few = omega arith }
 cell-few : (r : Rack) (k x : ℕ) → Few (space ++ pairText (pairAt r k x)) 64
 cell-few r k x = record { few = omega (arith, pair-few (pairAt r k x) .few) }
 
-replica-few : (r : Rack) → r .settings .cells ≤ 16 → (k : ℕ) → Few (replicaLine r k) 1057
+replica-few : (r : Rack) → r .settings .cells ≤ cellLimit → (k : ℕ) → Few (replicaLine r k) 1057
 replica-few r h k =
     let start : Few (field replicaStart k) 28 = record { few = omega (arith, digits-few 20 k .few) } in
     let pairs : Few (pairsText r k) 1024 = record { few = omega (arith, each-few (r .settings .cells) 64 (λ x. space ++ pairText (pairAt r k x)) (cell-few r k) .few) } in
@@ -146,7 +155,7 @@ entries-few (suc n) [] = record { few = omega arith }
 entries-few (suc n) (l ∷ lines) = let e : Few (entryBytes (l .entry)) 20 = record { few = entry-most (l .entry) } in
     let b = both e (entries-few n lines) in record { few = omega (arith, b .few) }
 
-record-few : (r : Rack) → r .count ≤ 2048 → Few (recordLine r) 122887
+record-few : (r : Rack) → r .count ≤ entryLimit → Few (recordLine r) 122887
 unfolding recordOf
 record-few r h =
     let start : Few recordStart 6 = record { few = omega arith } in
@@ -166,8 +175,8 @@ rack-few r h =
     record { few = omega (arith, each-few (r .settings .replicas) 1057 (λ k. replicaLine r k) (replica-few r (s .settings .cells)) .few, s .settings .replicas) } in
     let clients : Few (eachBelow (r .settings .clients) (λ i. clientLine i (partyAt r i))) 4256 =
     record { few = omega (arith, each-few (r .settings .clients) 532 (λ i. clientLine i (partyAt r i)) (λ i. client-few i (partyAt r i)) .few, s .settings .clients) } in
-    let slots : Few (eachBelow 256 (λ i. slotLine i (heldAt r i))) 52992 =
-    record { few = omega (arith, each-few 256 207 (λ i. slotLine i (heldAt r i)) (λ i. slot-few i (heldAt r i)) .few) } in
+    let slots : Few (eachBelow slotLimit (λ i. slotLine i (heldAt r i))) 52992 =
+    record { few = omega (arith, each-few slotLimit 207 (λ i. slotLine i (heldAt r i)) (λ i. slot-few i (heldAt r i)) .few) } in
     both (sizes-few (r .settings)) (both replicas (both clients (both slots (record-few r (omega (arith, s .entries))))))
 
 refusal-few : (k : ℕ) → Few (refusalText k) 20

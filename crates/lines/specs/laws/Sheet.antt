@@ -8,7 +8,9 @@ use Rattle.quorum.specs.Sets.{setBits, hasReplica}
 use Rattle.method.specs.declared.Body.the-variants.{Ask, Keep}
 use Rattle.method.specs.declared.InSlot.the-variants.{Full}
 use Rattle.method.specs.declared.Goal.the-variants.{Read, Write}
-use Rattle.method.specs.declared.Work.the-variants.{Idle, Asking, Keeping}
+use Rattle.method.specs.declared.Holding.the-variants.{NoPair, Holds}
+use Rattle.method.specs.declared.Phase.the-variants.{Asking, Keeping}
+use Rattle.method.specs.declared.Work.the-variants.{Idle, Open}
 use Rattle.lines.specs.Lines.{eachBelow, slotLine, clientLine, sizesLine, faultLine}
 use Rattle.lines.specs.Examples.{nine, below}
 
@@ -34,21 +36,21 @@ unfolding digitsOf
 stopped-line = refl
 
 -- `client 1 asking read cell 2 op 3 from 0 2 held 1.0=9`
-pub asking-line : clientLine 1 (record { stopped = false; op = 3; work = Asking (record { 0 = 2 }) Read 5 nine })
+pub asking-line : clientLine 1 (record { stopped = false; op = 3; work = Open (record { cell = record { 0 = 2 }; goal = Read; phase = Asking (Holds nine); set = 5 }) })
     ≡ 99 ∷ 108 ∷ 105 ∷ 101 ∷ 110 ∷ 116 ∷ 32 ∷ 49 ∷ 32 ∷ 97 ∷ 115 ∷ 107 ∷ 105 ∷ 110 ∷ 103 ∷ 32 ∷ 114 ∷ 101 ∷ 97 ∷ 100 ∷ 32 ∷ 99 ∷ 101 ∷ 108 ∷ 108 ∷ 32 ∷ 50 ∷ 32 ∷ 111 ∷ 112 ∷ 32 ∷
     51 ∷ 32 ∷ 102 ∷ 114 ∷ 111 ∷ 109 ∷ 32 ∷ 48 ∷ 32 ∷ 50 ∷ 32 ∷ 104 ∷ 101 ∷ 108 ∷ 100 ∷ 32 ∷ 49 ∷ 46 ∷ 48 ∷ 61 ∷ 57 ∷ 10 ∷ []
 unfolding digitsOf valueText eachBelow setBits hasReplica
 asking-line = refl
 
 -- `client 1 asking read cell 2 op 3 from none held none`
-pub asked-line : clientLine 1 (record { stopped = false; op = 3; work = Asking (record { 0 = 2 }) Read 0 nine })
+pub asked-line : clientLine 1 (record { stopped = false; op = 3; work = Open (record { cell = record { 0 = 2 }; goal = Read; phase = Asking NoPair; set = 0 }) })
     ≡ 99 ∷ 108 ∷ 105 ∷ 101 ∷ 110 ∷ 116 ∷ 32 ∷ 49 ∷ 32 ∷ 97 ∷ 115 ∷ 107 ∷ 105 ∷ 110 ∷ 103 ∷ 32 ∷ 114 ∷ 101 ∷ 97 ∷ 100 ∷ 32 ∷ 99 ∷ 101 ∷ 108 ∷ 108 ∷ 32 ∷ 50 ∷ 32 ∷ 111 ∷ 112 ∷ 32 ∷
     51 ∷ 32 ∷ 102 ∷ 114 ∷ 111 ∷ 109 ∷ 32 ∷ 110 ∷ 111 ∷ 110 ∷ 101 ∷ 32 ∷ 104 ∷ 101 ∷ 108 ∷ 100 ∷ 32 ∷ 110 ∷ 111 ∷ 110 ∷ 101 ∷ 10 ∷ []
 unfolding digitsOf
 asked-line = refl
 
 -- `client 1 keeping write -5 cell 2 op 3 from none held 2.1=-5`
-pub keeping-line : clientLine 1 (record { stopped = false; op = 3; work = Keeping (record { 0 = 2 }) (Write (negsuc 4)) 0 below })
+pub keeping-line : clientLine 1 (record { stopped = false; op = 3; work = Open (record { cell = record { 0 = 2 }; goal = Write (negsuc 4); phase = Keeping below; set = 0 }) })
     ≡ 99 ∷ 108 ∷ 105 ∷ 101 ∷ 110 ∷ 116 ∷ 32 ∷ 49 ∷ 32 ∷ 107 ∷ 101 ∷ 101 ∷ 112 ∷ 105 ∷ 110 ∷ 103 ∷ 32 ∷ 119 ∷ 114 ∷ 105 ∷ 116 ∷ 101 ∷ 32 ∷ 45 ∷ 53 ∷ 32 ∷ 99 ∷ 101 ∷ 108 ∷ 108 ∷ 32 ∷
     50 ∷ 32 ∷ 111 ∷ 112 ∷ 32 ∷ 51 ∷ 32 ∷ 102 ∷ 114 ∷ 111 ∷ 109 ∷ 32 ∷ 110 ∷ 111 ∷ 110 ∷ 101 ∷ 32 ∷ 104 ∷ 101 ∷ 108 ∷ 100 ∷ 32 ∷ 50 ∷ 46 ∷ 49 ∷ 61 ∷ 45 ∷ 53 ∷ 10 ∷ []
 unfolding digitsOf valueText
