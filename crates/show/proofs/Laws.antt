@@ -19,7 +19,7 @@ use Rattle.number.specs.declared.Put.the-variants.{Next, NoRoom}
 use Rattle.record.specs.declared.Entry.{Entry}
 use Rattle.record.specs.Entry.{entryBytes}
 use Rattle.record.specs.laws.EntryTrip.{entry-most}
-use Rattle.record.specs.Record.{allOf, bytesOf}
+use Rattle.record.specs.Record.{entryLimit, allOf, bytesOf}
 use Rattle.rack.specs.declared.Line.{Line}
 use Rattle.lines.specs.Lines.{eachBelow}
 
@@ -81,15 +81,15 @@ module _ {l : List ℕ} {at : ℕ} (lines : List Line) where
       (join v (same-text (one-entry (getD lines i d)) w))
 
   -- the first n are all that stand there
-  pub all-entries : (i count : ℕ) {a : ℕ} {l′ : List ℕ} → length lines ≡ 2048 → i ≤ min count 2048 → min count 2048 ≤ i
+  pub all-entries : (i count : ℕ) {a : ℕ} {l′ : List ℕ} → length lines ≡ entryLimit → i ≤ min count entryLimit → min count entryLimit ≤ i
       → Printed l at (hexText (bytesOf (map (λ (x : Line). x .entry) (take i lines)))) a l′
       → Printed l at (hexText (bytesOf (map (λ (x : Line). x .entry) (take count lines)))) a l′
-  all-entries i count e h k v = same-text (ap entriesText (same-front (ltb count 2048) refl)) v
+  all-entries i count e h k v = same-text (ap entriesText (same-front (ltb count entryLimit) refl)) v
     where
-      same-front : (t : Bool) → ltb count 2048 ≡ t → take i lines ≡ take count lines
+      same-front : (t : Bool) → ltb count entryLimit ≡ t → take i lines ≡ take count lines
       same-front true q =
-          let few : count < 2048 = ltb-true count 2048 q in
+          let few : count < entryLimit = ltb-true count entryLimit q in
           let same : i ≡ count = omega arith in ap (λ (n : ℕ). take n lines) same
       same-front false q =
-          let many : 2048 ≤ count = ltb-false count 2048 q in
+          let many : entryLimit ≤ count = ltb-false count entryLimit q in
           take-all i lines (omega arith) ∙ sym (take-all count lines (omega arith))

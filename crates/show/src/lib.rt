@@ -10,14 +10,18 @@ ghost use Rattle.quorum.specs.Sets.{hasReplica};
 ghost use Rattle.rack.specs.declared.Line.{Line};
 ghost use Rattle.stamps.specs.Stamp.{freshPair};
 ghost use Rattle.rack.specs.Places.{slotLimit, idle, pairPlace, heldIn};
-ghost use Rattle.lines.specs.Words.{doneStart, space, pairWord, askingWord, keepingWord};
-ghost use Rattle.lines.specs.Lines.{eachBelow, pairText, kindText, bodyPair, namesText, messageText, slotLine, goalText, memberText, membersText, openText, heldText, firstHeld};
+ghost use Rattle.lines.specs.Words.{doneStart, space, pairWord};
+ghost use Rattle.lines.specs.Lines.{eachBelow, pairText, kindText, bodyPair, namesText, messageText, slotLine, goalText, memberText, membersText, openText, heldText, holdingText};
+ghost use Rattle.lines.specs.Lines.{phaseWord, phaseHeld};
 ghost use Rattle.lines.specs.Lines.{workText, stoppedText, clientLine, powerText, replicaLine, sizesLine, recordLine, rackText, refusalText, ranText, faultLine};
 use method::Body;
 use method::Goal;
+use method::Holding;
 use method::InSlot;
 use method::Message;
+use method::Operation;
 use method::Party;
+use method::Phase;
 use method::Work;
 use number::Put;
 use rack::Line;
@@ -195,46 +199,45 @@ fn put_held(out: &mut [u8], at: usize, held: Pair) -> usize
     put_pair(out, next, held)
 }
 
-// In the ask phase nothing is held while the set is empty.
-fn put_first_held(out: &mut [u8], at: usize, set: u16, held: Pair) -> usize
-    ensures { λ r. ⌜ Printed (now (out .entry)) at (firstHeld set held) r (now (out .exit)) ⌝ }
+// In the ask phase nothing is held while nobody has told, and then a pair.
+fn put_holding(out: &mut [u8], at: usize, held: Holding) -> usize
+    ensures { λ r. ⌜ Printed (now (out .entry)) at (holdingText held) r (now (out .exit)) ⌝ }
 {
-    if set == 0 {
-        return put_words(out, at, b" held none");
+    match held {
+        Holding::NoPair => put_words(out, at, b" held none"),
+        Holding::Holds(pair) => put_held(out, at, pair),
     }
-    put_held(out, at, held)
 }
 
-fn put_asking(
-    out: &mut [u8],
-    at: usize,
-    op: u16,
-    cell: Cell,
-    goal: Goal,
-    set: u16,
-    held: Pair,
-) -> usize
-    ensures { λ r. ⌜ Printed (now (out .entry)) at (askingWord ++ (openText op (cell .0) goal set ++ firstHeld set held)) r (now (out .exit)) ⌝ }
+fn put_phase_word(out: &mut [u8], at: usize, phase: Phase) -> usize
+    ensures { λ r. ⌜ Printed (now (out .entry)) at (phaseWord phase) r (now (out .exit)) ⌝ }
 {
-    let a = put_words(out, at, b" asking");
-    let b = put_open(out, a, op, cell, goal, set);
-    put_first_held(out, b, set, held)
+    match phase {
+        Phase::Asking(_) => put_words(out, at, b" asking"),
+        Phase::Keeping(_) => put_words(out, at, b" keeping"),
+    }
 }
 
-fn put_keeping(
-    out: &mut [u8],
-    at: usize,
-    op: u16,
-    cell: Cell,
-    goal: Goal,
-    set: u16,
-    held: Pair,
-) -> usize
-    ensures { λ r. ⌜ Printed (now (out .entry)) at (keepingWord ++ (openText op (cell .0) goal set ++ heldText held)) r (now (out .exit)) ⌝ }
+fn put_phase_held(out: &mut [u8], at: usize, phase: Phase) -> usize
+    ensures { λ r. ⌜ Printed (now (out .entry)) at (phaseHeld phase) r (now (out .exit)) ⌝ }
 {
-    let a = put_words(out, at, b" keeping");
-    let b = put_open(out, a, op, cell, goal, set);
-    put_held(out, b, held)
+    match phase {
+        Phase::Asking(held) => put_holding(out, at, held),
+        Phase::Keeping(pair) => put_held(out, at, pair),
+    }
+}
+
+fn put_operation(out: &mut [u8], at: usize, op: u16, operation: Operation) -> usize
+    ensures { λ r. ⌜ Printed (now (out .entry)) at
+        (phaseWord (operation .phase) ++ (openText op (operation .cell .0) (operation .goal) (operation .set) ++ phaseHeld (operation .phase)))
+        r (now (out .exit)) ⌝ }
+{
+    let cell = operation.cell;
+    let goal = operation.goal;
+    let phase = operation.phase;
+    let a = put_phase_word(out, at, phase);
+    let b = put_open(out, a, op, cell, goal, operation.set);
+    put_phase_held(out, b, phase)
 }
 
 fn put_work(out: &mut [u8], at: usize, op: u16, work: Work) -> usize
@@ -242,18 +245,7 @@ fn put_work(out: &mut [u8], at: usize, op: u16, work: Work) -> usize
 {
     match work {
         Work::Idle => put_field(out, at, b" idle op ", op as usize),
-        Work::Asking {
-            cell,
-            goal,
-            set,
-            held,
-        } => put_asking(out, at, op, cell, goal, set, held),
-        Work::Keeping {
-            cell,
-            goal,
-            set,
-            held,
-        } => put_keeping(out, at, op, cell, goal, set, held),
+        Work::Open(operation) => put_operation(out, at, op, operation),
     }
 }
 

@@ -4,16 +4,16 @@ use borrow.Author.Needs.{needs}
 use Rattle.text.specs.Text.{Printed}
 use Rattle.text.specs.laws.Printing.{printed-length}
 use Rattle.show.proofs.Laws.{each-none, each-next, each-all}
-use Rattle.rack.specs.Places.{heldIn}
+use Rattle.rack.specs.Places.{slotLimit, heldIn}
 use Rattle.lines.specs.Lines.{eachBelow, slotLine}
 use Rattle.show.proofs.put_wire.Statement.{statement}
 use Rattle.show.proofs.put_wire.Tie as tie
 
 abbrev Inv-loop : tie.InvT-loop
-Inv-loop out₀ at wire next₀ i₀ out next i = (i ≤ 256) × Printed out₀ at (eachBelow i (λ j. slotLine j (heldIn wire j))) next out
+Inv-loop out₀ at wire next₀ i₀ out next i = (i ≤ slotLimit) × Printed out₀ at (eachBelow i (λ j. slotLine j (heldIn wire j))) next out
 
 abbrev μ-loop : tie.MeasureT-loop
-μ-loop out₀ at wire next₀ i₀ out next i = 256 - i
+μ-loop out₀ at wire next₀ i₀ out next i = slotLimit - i
 
 loop-holds : tie.Need-loop-holds Inv-loop μ-loop
 loop-holds c = (search needs, each-none _)

@@ -18,14 +18,8 @@ put-field-requires c κs = search needs
 enum-known-work : tie.Need-enum-known-work
 enum-known-work c = search needs
 
-put-asking-requires : tie.Need-put-asking-requires
-put-asking-requires c κs = search needs
-
-enum-known-work-2 : tie.Need-enum-known-work-2
-enum-known-work-2 c = search needs
-
-put-keeping-requires : tie.Need-put-keeping-requires
-put-keeping-requires c κs = search needs
+put-operation-requires : tie.Need-put-operation-requires
+put-operation-requires c κs = search needs
 
 same-length : tie.Need-same-length
 same-length c = search needs
@@ -37,13 +31,7 @@ same-length-2 : tie.Need-same-length-2
 same-length-2 c = search needs
 
 returns-2 : tie.Need-returns-2
-returns-2 c = same-text (ap (workText _) (sym (c .before .before .before .before .before .work .given .1))) (c .before .before .put-asking .ensures)
-
-same-length-3 : tie.Need-same-length-3
-same-length-3 c = search needs
-
-returns-3 : tie.Need-returns-3
-returns-3 c = same-text (ap (workText _) (sym (c .before .before .before .before .before .work2 .given .1))) (c .before .before .put-keeping .ensures)
+returns-2 c = same-text (ap (workText _) (sym (c .before .before .before .before .before .work .given .1))) (c .before .before .put-operation .ensures)
 
 pub put-work-spec : {M : Type 1} → statement M
 put-work-spec =
@@ -53,12 +41,8 @@ put-work-spec =
     slice-aggregate-put-field
     put-field-requires
     enum-known-work
-    put-asking-requires
-    enum-known-work-2
-    put-keeping-requires
+    put-operation-requires
     same-length
     returns
     same-length-2
-    returns-2
-    same-length-3
-    returns-3)
+    returns-2)
