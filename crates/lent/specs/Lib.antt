@@ -1,5 +1,4 @@
 -- What has to be believed: definitions.
-pub mod Plain
 pub mod Called
 pub mod Handed
 pub mod Together

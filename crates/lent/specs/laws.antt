@@ -1,6 +1,5 @@
 -- Laws: what is proved, and the definitions that only proofs need.
 pub mod Again
-pub mod Alike
 pub mod Away
 pub mod Calls
 pub mod Drill

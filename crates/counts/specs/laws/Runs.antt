@@ -16,9 +16,8 @@ use Rattle.rack.specs.declared.Made.{Made}
 use Rattle.rack.specs.Sound.{settingsFit, soundOf}
 use Rattle.rack.specs.Run.{eventOf, appliedOf, turn, ranOf, runFrom, runOf, freshRack, madeOf}
 use Rattle.rack.specs.Refusals.{decided}
-use Rattle.rack.specs.laws.Table.{decided-unsound}
 use Rattle.rack.specs.Counts.{counted, countOver}
-use Rattle.runs.specs.laws.Steps.{run-from, run-steps}
+use Rattle.runs.specs.laws.Steps.{run-from, run-steps, from-unsound}
 use Rattle.counts.specs.Counts.{totalOf}
 use Rattle.method.specs.laws.Tests.{whichever}
 
@@ -88,16 +87,6 @@ module _ (I : Rack → Type 0) (v : Rack → ℕ) (less more : Event → Plan �
 pub record Untouched (f : Event → Plan → ℕ) (r : Rack) (allowance : ℕ) (ws : List ℕ) : Type 0 where
   pub count : totalOf f r allowance ws ≡ 0
   pub left : runOf r allowance ws .rack ≡ r
-
-from-unsound : (done : ℕ) (r : Rack) (left : ℕ) (ws : List ℕ) → soundOf r ≡ false
-    → (runFrom done r left ws .done ≡ done) × (runFrom done r left ws .rack ≡ r)
-unfolding runFrom turn
-from-unsound done r zero ws u = (refl, refl)
-from-unsound done r (suc left) [] u = (refl, refl)
-from-unsound done r (suc left) (k ∷ []) u = (refl, refl)
-from-unsound done r (suc left) (k ∷ a ∷ []) u = (refl, refl)
-from-unsound done r (suc left) (k ∷ a ∷ b ∷ []) u = (refl, refl)
-from-unsound done r (suc left) (k ∷ a ∷ b ∷ v ∷ ws) u = rw (decided-unsound r (eventOf k a b v) u) (refl, refl)
 
 pub unsound-none : (f : Event → Plan → ℕ) (r : Rack) (allowance : ℕ) (ws : List ℕ) → soundOf r ≡ false → Untouched f r allowance ws
 unfolding totalOf runOf countOver

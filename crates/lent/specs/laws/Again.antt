@@ -3,7 +3,7 @@ use Prim.Native.Nat.{ℕ, zero, suc}
 use mathlib.Core.Path.{_≡_, refl, ap, sym}
 use mathlib.Core.Bool.{Bool, true, false, cond}
 use mathlib.Core.List.{List}
-use lib.Dec.{eqb, ltb}
+use lib.Dec.{eqb}
 use lib.ListN.{length, replicate, length-replicate}
 use borrow.Author.Tests.{eq-eqb, eqb-true, eqb-false}
 use Rattle.rack.specs.declared.Rack.{Rack}
@@ -11,17 +11,16 @@ use Rattle.rack.specs.declared.Ran.{Ran}
 use Rattle.rack.specs.Sound.{settingsFit, soundOf}
 use Rattle.rack.specs.laws.SoundLaws.{sized}
 use Rattle.rack.specs.laws.Fresh.{fresh-sound}
-use Rattle.rack.specs.Run.{freshRack, madeOf, ranOf, runFrom, runOf}
-use Rattle.runs.specs.laws.Steps.{run-steps}
+use Rattle.rack.specs.Run.{freshRack, madeOf, runOf}
+use Rattle.runs.specs.laws.Steps.{run-steps, from-unsound}
 use Rattle.runs.specs.laws.Parts.{run-stays}
 use Rattle.layout.specs.Layout.{wordCount, word}
 use Rattle.layout.specs.Reading.{rackOf}
 use Rattle.layout.specs.Writing.{writtenOf}
 use Rattle.layout.specs.Calls.{makes, madeOutcome, leaves, runOutcome}
-use Rattle.lent.specs.Plain.{plainRack, Plain}
-use Rattle.lent.specs.laws.Whole.{whole, whole-plain}
-use Rattle.lent.specs.laws.Stays.{Writable, small-of, run-writable, run-plain}
-use Rattle.lent.specs.laws.Read.{read-writable, fresh-writable, made-fresh, fresh-plain}
+use Rattle.lent.specs.laws.Whole.{whole}
+use Rattle.lent.specs.laws.Stays.{Writable, small-of, run-writable}
+use Rattle.lent.specs.laws.Read.{read-writable, fresh-writable, made-fresh}
 
 -- ---- making
 
@@ -36,7 +35,7 @@ fresh-again replicas clients cells e ws h l =
     let r : Rack = freshRack replicas clients cells in
     let s : soundOf r ≡ true = fresh-sound replicas clients cells e in
     let w : Writable ws r = fresh-writable ws h replicas clients cells (sized (record { replicas = replicas; clients = clients; cells = cells }) e .replicas) in
-    whole r ws s (small-of ws r s w) l (w .beyond) (fresh-plain replicas clients cells)
+    whole r ws s (small-of ws r w) l (w .beyond)
 
 -- the rack that was made stands in the words, also beside a refusal
 pub made-reads-again : (replicas clients cells : ℕ) (ws : List ℕ) → length ws ≡ wordCount
@@ -58,13 +57,11 @@ none-done r n es h = sym (ap (λ (q : Ran). q .rack) (rw h at (run-steps r n es 
 -- an event is done on a sound rack only
 pub some-done : (r : Rack) (n : ℕ) (es : List ℕ) → (runOf r n es .done ≡ 0 → ⊥) → soundOf r ≡ true
 unfolding runOf
-some-done r n es h = go (eqb n 0) (ltb (length es) 4) (soundOf r) h
+some-done r n es h = go (soundOf r) refl
   where
-    go : (a b c : Bool) → (cond a (ranOf 0 0 r) (cond b (ranOf 0 0 r) (cond c (runFrom 0 r n es) (ranOf 0 2 r))) .done ≡ 0 → ⊥) → c ≡ true
-    go true b c k = absurd (k refl)
-    go false true c k = absurd (k refl)
-    go false false true k = refl
-    go false false false k = absurd (k refl)
+    go : (t : Bool) → soundOf r ≡ t → t ≡ true
+    go true e = refl
+    go false e = absurd (h (from-unsound 0 r n es e .0))
 
 module _ (ws : List ℕ) (n : ℕ) (es : List ℕ) (l : length ws ≡ wordCount) where
   -- the rack that the run leaves
@@ -77,32 +74,17 @@ module _ (ws : List ℕ) (n : ℕ) (es : List ℕ) (l : length ws ≡ wordCount)
   pub after-writable : soundOf (rackOf ws) ≡ true → Writable ws after
   after-writable s = run-writable ws (rackOf ws) n es s (read-writable ws s)
 
-  left-again : Plain (rackOf ws) → rackOf (runOutcome ws n es .lent) ≡ runOf (rackOf ws) n es .rack
+  left-again : rackOf (runOutcome ws n es .lent) ≡ runOf (rackOf ws) n es .rack
   unfolding runOutcome leaves
-  left-again p = rw (eq-eqb (length ws) wordCount l) (go (eqb (runOf (rackOf ws) n es .done) 0) refl)
+  left-again = rw (eq-eqb (length ws) wordCount l) (go (eqb (runOf (rackOf ws) n es .done) 0) refl)
     where
       go : (t : Bool) → eqb (runOf (rackOf ws) n es .done) 0 ≡ t → rackOf (cond t ws (writtenOf after ws)) ≡ after
       go true e = sym (none-done (rackOf ws) n es (eqb-true _ 0 e))
       go false e =
           let s = some-done (rackOf ws) n es (eqb-false _ 0 e) in
           let w = after-writable s in
-          whole after ws (after-sound s) (small-of ws after (after-sound s) w) l (w .beyond) (run-plain ws (rackOf ws) n es s (read-writable ws s) p)
+          whole after ws (after-sound s) (small-of ws after w) l (w .beyond)
 
-  left-plain : plainRack (rackOf (runOutcome ws n es .lent)) ≡ plainRack (runOf (rackOf ws) n es .rack)
-  unfolding runOutcome leaves
-  left-plain = rw (eq-eqb (length ws) wordCount l) (go (eqb (runOf (rackOf ws) n es .done) 0) refl)
-    where
-      go : (t : Bool) → eqb (runOf (rackOf ws) n es .done) 0 ≡ t → plainRack (rackOf (cond t ws (writtenOf after ws))) ≡ plainRack after
-      go true e = ap plainRack (sym (none-done (rackOf ws) n es (eqb-true _ 0 e)))
-      go false e =
-          let s = some-done (rackOf ws) n es (eqb-false _ 0 e) in
-          let w = after-writable s in
-          whole-plain after ws (after-sound s) (small-of ws after (after-sound s) w) l (w .beyond)
-
--- The words that a run leaves are read as the rack that it left, whole, if at first no client that was told nothing held anything.
-pub run-reads-again : (ws : List ℕ) (n : ℕ) (es : List ℕ) → length ws ≡ wordCount → Plain (rackOf ws) → rackOf (runOutcome ws n es .lent) ≡ runOf (rackOf ws) n es .rack
-run-reads-again ws n es l p = left-again ws n es l p
-
--- Of any words it is so but for what such clients hold.
-pub run-reads-plain : (ws : List ℕ) (n : ℕ) (es : List ℕ) → length ws ≡ wordCount → plainRack (rackOf (runOutcome ws n es .lent)) ≡ plainRack (runOf (rackOf ws) n es .rack)
-run-reads-plain ws n es l = left-plain ws n es l
+-- The words that a run leaves are read as the rack that it left, whole.
+pub run-reads-again : (ws : List ℕ) (n : ℕ) (es : List ℕ) → length ws ≡ wordCount → rackOf (runOutcome ws n es .lent) ≡ runOf (rackOf ws) n es .rack
+run-reads-again ws n es l = left-again ws n es l

@@ -47,19 +47,19 @@ parts-beside (suc n) place f d j h =
 
 -- place j is none where a part of the rack r is written
 pub record Away (r : Rack) (j : ℕ) : Type 0 where
-  pub head : 5 ≤ j
-  pub parties : (i : ℕ) → i < r .settings .clients → Beside (partyPlace i) 10 j
-  pub pairs : (i : ℕ) → i < 16 * r .settings .replicas → i % 16 < r .settings .cells → Beside (pairPlace i) 3 j
-  pub slots : (i : ℕ) → i < 256 → Beside (slotPlace i) 9 j
-  pub rows : (i : ℕ) → i < r .count → Beside (entryPlace i) 4 j
+  pub head : headSize ≤ j
+  pub parties : (i : ℕ) → i < r .settings .clients → Beside (partyPlace i) partySize j
+  pub pairs : (i : ℕ) → i < cellLimit * r .settings .replicas → i % cellLimit < r .settings .cells → Beside (pairPlace i) pairSize j
+  pub slots : (i : ℕ) → i < slotLimit → Beside (slotPlace i) slotSize j
+  pub rows : (i : ℕ) → i < r .count → Beside (entryPlace i) entrySize j
 
 -- a pair that isn't written is beside every place
-pair-beside : (cells i : ℕ) (p : Pair) (j : ℕ) → (i % 16 < cells → Beside (pairPlace i) 3 j) → Beside (pairPlace i) (length (pairWritten cells i p)) j
+pair-beside : (cells i : ℕ) (p : Pair) (j : ℕ) → (i % cellLimit < cells → Beside (pairPlace i) pairSize j) → Beside (pairPlace i) (length (pairWritten cells i p)) j
 unfolding pairWritten
-pair-beside cells i p j h = go (ltb (i % 16) cells) refl
+pair-beside cells i p j h = go (ltb (i % cellLimit) cells) refl
   where
-    go : (t : Bool) → ltb (i % 16) cells ≡ t → Beside (pairPlace i) (length (cond t (pairWords p) [])) j
-    go true e k = let a = h (ltb-true (i % 16) cells e) k in omega (arith, pair-long p)
+    go : (t : Bool) → ltb (i % cellLimit) cells ≡ t → Beside (pairPlace i) (length (cond t (pairWords p) [])) j
+    go true e k = let a = h (ltb-true (i % cellLimit) cells e) k in omega (arith, pair-long p)
     go false e k = omega arith
 
 pub away-stays : (r : Rack) (ws : List ℕ) (j : ℕ) → Away r j → word (writtenOf r ws) j ≡ word ws j
@@ -67,7 +67,7 @@ unfolding writtenOf recordPut wirePut pairsPut partiesPut headOf
 away-stays r ws j a =
     parts-beside (r .count) entryPlace (λ i. rowOf (entryIn (r .lines) i)) _ j (λ i h k. (let b = a .rows i h k in omega (arith, row-length (entryIn (r .lines) i))))
     ∙ parts-beside slotLimit slotPlace (λ i. slotWords (heldAt r i)) _ j (λ i h k. (let b = a .slots i h k in omega (arith, slot-long (heldAt r i))))
-    ∙ parts-beside (16 * r .settings .replicas) pairPlace (λ i. pairWritten (r .settings .cells) i (getD (r .pairs) i freshPair)) _ j
+    ∙ parts-beside (cellLimit * r .settings .replicas) pairPlace (λ i. pairWritten (r .settings .cells) i (getD (r .pairs) i freshPair)) _ j
     (λ i h. pair-beside (r .settings .cells) i (getD (r .pairs) i freshPair) j (a .pairs i h))
     ∙ parts-beside (r .settings .clients) partyPlace (λ i. partyWords (partyAt r i)) _ j (λ i h k. (let b = a .parties i h k in omega (arith, party-long (partyAt r i))))
     ∙ sets-beside (r .settings .replicas ∷ r .settings .clients ∷ r .settings .cells ∷ r .power ∷ r .count ∷ []) ws 0 j (λ k. a .head)

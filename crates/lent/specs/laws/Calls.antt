@@ -10,6 +10,7 @@ use borrow.Author.Tests.{eqb-true}
 use Rattle.number.specs.Below.{Words}
 use Rattle.law.specs.Operation.{operations}
 use Rattle.law.specs.Order.{Lawful}
+use Rattle.record.specs.Entry.{cellLimit}
 use Rattle.rows.specs.Row.{rowOf}
 use Rattle.stamps.specs.Stamp.{freshPair}
 use Rattle.rack.specs.declared.Rack.{Rack}
@@ -30,10 +31,7 @@ use Rattle.layout.specs.Reading.{rackOf}
 use Rattle.layout.specs.Writing.{partyWords, slotWords, headOf, partiesPut, pairWritten, pairsPut, wirePut, entryIn, recordPut, writtenOf}
 use Rattle.layout.specs.laws.PlaceLaws.{first-long}
 use Rattle.layout.specs.Calls.{unfit, makes, madeOutcome, leaves, runOutcome}
-use Rattle.lent.specs.Plain.{Plain}
 use Rattle.lent.specs.Called.{Called, made, ran}
-use Rattle.lent.specs.laws.Stays.{run-plain}
-use Rattle.lent.specs.laws.Read.{read-writable, made-fresh, fresh-plain}
 use Rattle.lent.specs.laws.Again.{made-reads-again, run-reads-again}
 
 -- ---- no length changes
@@ -43,7 +41,7 @@ unfolding writtenOf recordPut wirePut pairsPut partiesPut headOf
 written-long r ws =
     first-long (r .count) entryPlace (λ i. rowOf (entryIn (r .lines) i)) _
     ∙ first-long slotLimit slotPlace (λ i. slotWords (heldAt r i)) _
-    ∙ first-long (16 * r .settings .replicas) pairPlace (λ i. pairWritten (r .settings .cells) i (getD (r .pairs) i freshPair)) _
+    ∙ first-long (cellLimit * r .settings .replicas) pairPlace (λ i. pairWritten (r .settings .cells) i (getD (r .pairs) i freshPair)) _
     ∙ first-long (r .settings .clients) partyPlace (λ i. partyWords (partyAt r i)) _
     ∙ length-sets ws 0 (r .settings .replicas ∷ r .settings .clients ∷ r .settings .cells ∷ r .power ∷ r .count ∷ [])
 
@@ -72,13 +70,9 @@ run-long ws n es = go (eqb (length ws) wordCount)
 
 -- ---- what holds after any calls
 
-made-plain : (replicas clients cells : ℕ) → Plain (madeOf replicas clients cells .rack)
-made-plain replicas clients cells = made-fresh Plain replicas clients cells (λ e. fresh-plain replicas clients cells) (fresh-plain 1 1 1)
-
 -- a sound rack that runs lead to from a fresh one, whose clients agree with its record
 pub record Led (r : Rack) : Type 0 where
   pub sound : soundOf r ≡ true
-  pub plain : Plain r
   pub agrees : Agrees r
   pub reached : Reached r
 
@@ -86,7 +80,6 @@ made-led : (replicas clients cells : ℕ) → Led (madeOf replicas clients cells
 made-led replicas clients cells =
     record {
       sound = made-sound replicas clients cells;
-      plain = made-plain replicas clients cells;
       agrees = made-agrees replicas clients cells;
       reached = Reached.made replicas clients cells;
     }
@@ -95,7 +88,6 @@ ran-led : (ws : List ℕ) (n : ℕ) (es : List ℕ) → Words es → Led (rackOf
 ran-led ws n es w h =
     record {
       sound = run-stays (rackOf ws) n es (h .sound);
-      plain = run-plain ws (rackOf ws) n es (h .sound) (read-writable ws (h .sound)) (h .plain);
       agrees = run-agrees (rackOf ws) n es w (h .sound) (h .agrees);
       reached = Reached.ran (rackOf ws) n es (h .reached);
     }
@@ -108,7 +100,7 @@ pub called-led : {ws : List ℕ} → Called ws → Led (rackOf ws)
 called-led (made replicas clients cells ws l) = rw (made-reads-again replicas clients cells ws l) (made-led replicas clients cells)
 called-led (ran ws n es w c) =
     let h : Led (rackOf ws) = called-led c in
-    rw (run-reads-again ws n es (called-long c) (h .plain)) (ran-led ws n es w h)
+    rw (run-reads-again ws n es (called-long c)) (ran-led ws n es w h)
 
 -- From made words, after any calls, the record in the words is lawful,
 pub calls-lawful : (ws : List ℕ) → Called ws → Lawful (operations (recordOf (rackOf ws)))
@@ -120,4 +112,4 @@ calls-read-back ws c = legal-back (recordOf (rackOf ws)) (agrees-legal (rackOf w
 
 -- In words that calls left, a run leaves what is read as its rack, whole.
 pub called-reads-again : (ws : List ℕ) (n : ℕ) (es : List ℕ) → Called ws → rackOf (runOutcome ws n es .lent) ≡ runOf (rackOf ws) n es .rack
-called-reads-again ws n es c = run-reads-again ws n es (called-long c) (called-led c .plain)
+called-reads-again ws n es c = run-reads-again ws n es (called-long c)

@@ -9,37 +9,34 @@ use lib.ListN.{getD, replicate, length-replicate, drop, List·getD-append, List�
 use lib.Pow.{pow-mono}
 use borrow.Author.Tests.{ltb-true, ltb-false, le-ltb, lt-ltb, eqb-true}
 use Rattle.number.specs.Value.{signedOf}
-use Rattle.record.specs.declared.Cell.{Cell}
 use Rattle.record.specs.declared.Entry.the-variants.{ReadAsked, WriteAsked, Told, Done}
+use Rattle.record.specs.Entry.{clientLimit, cellLimit}
 use Rattle.record.specs.Record.{entryLimit}
 use Rattle.rows.specs.Row.{entryOf}
 use Rattle.quorum.specs.Sets.{setBits, everyReplica}
 use Rattle.quorum.specs.laws.SetLaws.{every-below}
 use Rattle.stamps.specs.Stamp.{freshPair}
 use Rattle.method.specs.declared.InSlot.the-variants.{Empty}
-use Rattle.method.specs.declared.Goal.{Goal}
-use Rattle.method.specs.declared.Work.the-variants.{Idle, Asking, Keeping}
 use Rattle.method.specs.declared.Party.{Party}
 use Rattle.method.specs.laws.Tests.{and-left, and-right}
 use Rattle.rack.specs.declared.Line.{Line}
 use Rattle.rack.specs.declared.Slot.{Slot}
 use Rattle.rack.specs.declared.Rack.{Rack}
 use Rattle.rack.specs.declared.Made.{Made}
-use Rattle.rack.specs.Places.{slotLimit, empty, blank, idle}
+use Rattle.rack.specs.Places.{slotLimit, replicaLimit, pairLimit, empty, blank, idle}
 use Rattle.rack.specs.Sound.{allBelow, settingsFit, soundOf}
 use Rattle.rack.specs.Run.{freshRack, madeOf}
 use Rattle.rack.specs.laws.Tests.{all-of}
-use Rattle.layout.specs.Layout.{partyPlace, pairPlace, slotPlace, entryPlace, word, firsts}
-use Rattle.layout.specs.Reading.{byteOf, setOf, pairIn, goalOf, workOf, workIn, partyKnown, strayParty, partyIn, messageKnown, strayHeld, fullIn, heldOf, slotIn, entryKnown}
+use Rattle.layout.specs.Layout.{byteLimit, strayNumber, opLimit, powerLimit, partyPlace, pairPlace, slotPlace, entryPlace, word, firsts}
+use Rattle.layout.specs.Reading.{byteOf, pairIn, workIn, partyKnown, strayParty, partyIn, messageKnown, strayHeld, fullIn, heldOf, slotIn, entryKnown}
 use Rattle.layout.specs.Reading.{lineKnown, lineIn, linesIn, entryCount, countIn, powerOf, rackOf}
 use Rattle.layout.specs.Writing.{entryIn}
 use Rattle.layout.specs.laws.Firsts.{firsts-long, firsts-at}
 use Rattle.layout.specs.State.{State}
 use Rattle.layout.specs.laws.StateLaws.{state-of}
 use Rattle.layout.specs.laws.Trip.{entryFits}
-use Rattle.lent.specs.Plain.{Plain}
+use Rattle.layout.specs.laws.Small.{TagSmall}
 use Rattle.lent.specs.laws.Whole.{Beyond, lines-in-long, lines-in-beyond}
-use Rattle.lent.specs.laws.Plans.{RankSmall, HeldOp}
 use Rattle.lent.specs.laws.Stays.{Writable}
 
 -- ---- what is read from words is small
@@ -52,84 +49,60 @@ firsts-each P n f d hd hf i = go (ltb i n) refl
     go true e = rw (firsts-at n i f d (ltb-true i n e)) (hf i)
     go false e = rw (List·getD-eq-default (firsts n f) d {n = i} (omega (arith, firsts-long n f, ltb-false i n e))) hd
 
-byte-below : (w : ℕ) → byteOf w < 256
+byte-below : (w : ℕ) → byteOf w < byteLimit
 unfolding byteOf
-byte-below w = go (ltb w 256) refl
+byte-below w = go (ltb w byteLimit) refl
   where
-    go : (t : Bool) → ltb w 256 ≡ t → cond t w 255 < 256
-    go true e = ltb-true w 256 e
+    go : (t : Bool) → ltb w byteLimit ≡ t → cond t w strayNumber < byteLimit
+    go true e = ltb-true w byteLimit e
     go false e = omega arith
 
-power-below : (w : ℕ) → powerOf w < 32768
+power-below : (w : ℕ) → powerOf w < powerLimit
 unfolding powerOf
-power-below w = go (ltb w 32768) refl
+power-below w = go (ltb w powerLimit) refl
   where
-    go : (t : Bool) → ltb w 32768 ≡ t → cond t w 0 < 32768
-    go true e = ltb-true w 32768 e
+    go : (t : Bool) → ltb w powerLimit ≡ t → cond t w 0 < powerLimit
+    go true e = ltb-true w powerLimit e
     go false e = omega arith
 
-party-op : (ws : List ℕ) (at : ℕ) → partyIn ws at .op < 65536
+party-op : (ws : List ℕ) (at : ℕ) → partyIn ws at .op < opLimit
 unfolding partyIn partyKnown
 party-op ws at = go (partyKnown (word ws at) (word ws (at + 1)) (word ws (at + 2)) (word ws (at + 4))) refl
   where
     go : (t : Bool) → partyKnown (word ws at) (word ws (at + 1)) (word ws (at + 2)) (word ws (at + 4)) ≡ t
-        → cond {A = Party} t (record { stopped = eqb (word ws at) 1; op = word ws (at + 1); work = workIn ws (at + 2) }) strayParty .op < 65536
-    go true e = ltb-true _ _ (and-right (ltb (word ws at) 2) (ltb (word ws (at + 1)) 65536) (and-left _ _ e))
+        → cond {A = Party} t (record { stopped = eqb (word ws at) 1; op = word ws (at + 1); work = workIn ws (at + 2) }) strayParty .op < opLimit
+    go true e = ltb-true _ _ (and-right (ltb (word ws at) 2) (ltb (word ws (at + 1)) opLimit) (and-left _ _ e))
     go false e = omega arith
 
-work-rank : (ws : List ℕ) (at : ℕ) → RankSmall (workIn ws at)
-unfolding workIn workOf pairIn
-work-rank ws at = go (eqb (word ws at) 0) (eqb (word ws at) 1)
-  where
-    goal : Goal
-    goal = goalOf (word ws (at + 2)) (word ws (at + 3))
-
-    cell : Cell
-    cell = record { 0 = byteOf (word ws (at + 1)) }
-
-    go : (t u : Bool)
-        → RankSmall (cond t Idle (cond u (Asking cell goal (setOf (word ws (at + 4))) (pairIn ws (at + 5))) (Keeping cell goal (setOf (word ws (at + 4))) (pairIn ws (at + 5)))))
-    go true u = tt
-    go false true = byte-below (word ws (at + 5 + 1))
-    go false false = byte-below (word ws (at + 5 + 1))
-
-party-rank : (ws : List ℕ) (at : ℕ) → RankSmall (partyIn ws at .work)
-unfolding partyIn
-party-rank ws at = go (partyKnown (word ws at) (word ws (at + 1)) (word ws (at + 2)) (word ws (at + 4)))
-  where
-    go : (t : Bool) → RankSmall (cond {A = Party} t (record { stopped = eqb (word ws at) 1; op = word ws (at + 1); work = workIn ws (at + 2) }) strayParty .work)
-    go true = work-rank ws (at + 2)
-    go false = omega arith
-
-held-op : (ws : List ℕ) (at : ℕ) → HeldOp (heldOf ws at)
+held-op : (ws : List ℕ) (at : ℕ) → TagSmall (heldOf ws at)
 unfolding heldOf fullIn messageKnown
 held-op ws at = go (eqb (word ws at) 0) (messageKnown (word ws at) (word ws (at + 1)) (word ws (at + 5))) refl
   where
-    go : (t u : Bool) → messageKnown (word ws at) (word ws (at + 1)) (word ws (at + 5)) ≡ u → HeldOp (cond t Empty (cond u (fullIn ws at) strayHeld))
+    go : (t u : Bool) → messageKnown (word ws at) (word ws (at + 1)) (word ws (at + 5)) ≡ u → TagSmall (cond t Empty (cond u (fullIn ws at) strayHeld))
     go true u e = tt
-    go false true e = ltb-true _ _ (and-right (ltb (word ws (at + 1)) 4) (ltb (word ws (at + 5)) 65536) (and-right (eqb (word ws at) 1) _ e))
+    go false true e = ltb-true _ _ (and-right (ltb (word ws (at + 1)) 4) (ltb (word ws (at + 5)) opLimit) (and-right (eqb (word ws at) 1) _ e))
     go false false e = omega arith
 
 -- ---- the entries of words that are a state
 
-byte-least : (w n : ℕ) → n ≤ 255 → w < n → byteOf w < n
+byte-least : (w n : ℕ) → n ≤ strayNumber → w < n → byteOf w < n
 unfolding byteOf
-byte-least w n h l = rw (lt-ltb w 256 (omega arith)) l
+byte-least w n h l = rw (lt-ltb w byteLimit (omega arith)) l
 
 entry-fits : (kind client cell value : ℕ) → entryKnown kind client cell ≡ true → entryFits (entryOf kind (byteOf client) (byteOf cell) value)
 unfolding entryKnown entryOf
 entry-fits kind client cell value h = go (eqb kind 0) refl (eqb kind 1) refl (eqb kind 2)
   where
-    rest : (ltb client 8 && (not (ltb kind 2) || ltb cell 16)) ≡ true
-    rest = and-right (ltb kind 4) (ltb client 8 && (not (ltb kind 2) || ltb cell 16)) h
+    rest : (ltb client clientLimit && (not (ltb kind 2) || ltb cell cellLimit)) ≡ true
+    rest = and-right (ltb kind 4) (ltb client clientLimit && (not (ltb kind 2) || ltb cell cellLimit)) h
 
-    who : byteOf client < 8
-    who = byte-least client 8 (omega arith) (ltb-true client 8 (and-left (ltb client 8) (not (ltb kind 2) || ltb cell 16) rest))
+    who : byteOf client < clientLimit
+    who = byte-least client clientLimit (omega arith) (ltb-true client clientLimit (and-left (ltb client clientLimit) (not (ltb kind 2) || ltb cell cellLimit) rest))
 
-    where-to : kind < 2 → byteOf cell < 16
+    where-to : kind < 2 → byteOf cell < cellLimit
     where-to k =
-        let a : (not (ltb kind 2) || ltb cell 16) ≡ true = and-right (ltb client 8) (not (ltb kind 2) || ltb cell 16) rest in
-        byte-least cell 16 (omega arith) (ltb-true cell 16 (rw (lt-ltb kind 2 k) at a))
+        let a : (not (ltb kind 2) || ltb cell cellLimit) ≡ true = and-right (ltb client clientLimit) (not (ltb kind 2) || ltb cell cellLimit) rest in
+        byte-least cell cellLimit (omega arith) (ltb-true cell cellLimit (rw (lt-ltb kind 2 k) at a))
 
     go : (a : Bool) → eqb kind 0 ≡ a → (b : Bool) → eqb kind 1 ≡ b → (c : Bool)
         → entryFits (cond a (ReadAsked (record { 0 = byteOf client }) (record { 0 = byteOf cell }))
@@ -152,7 +125,7 @@ module _ (ws : List ℕ) (s : soundOf (rackOf ws) ≡ true) where
   count-is =
       let k : allBelow (entryCount ws) (λ i. lineKnown ws (entryPlace i)) ≡ true =
       all-of (entryCount ws) (λ i. lineKnown ws (entryPlace i)) (λ i l. state .entries i (omega arith)) in
-      rw (k, le-ltb 2048 (word ws 4) (state .count))
+      rw (k, le-ltb entryLimit (word ws 4) (state .count))
 
   looked-at : entryCount ws ≡ word ws 4
   unfolding entryCount
@@ -175,12 +148,12 @@ module _ (ws : List ℕ) (s : soundOf (rackOf ws) ≡ true) where
   unfolding rackOf
   read-beyond =
       record {
-        parties-long = firsts-long 8 (λ i. partyIn ws (partyPlace i));
-        pairs-long = firsts-long 240 (λ i. pairIn ws (pairPlace i));
+        parties-long = firsts-long clientLimit (λ i. partyIn ws (partyPlace i));
+        pairs-long = firsts-long pairLimit (λ i. pairIn ws (pairPlace i));
         wire-long = firsts-long slotLimit (λ i. slotIn ws (slotPlace i));
         lines-long = lines-in-long (entryCount ws) ws (omega (arith, looked-at, state .count));
-        parties = λ i h l. firsts-at 8 i (λ j. partyIn ws (partyPlace j)) idle l;
-        pairs = λ i h l. firsts-at 240 i (λ j. pairIn ws (pairPlace j)) freshPair h;
+        parties = λ i h l. firsts-at clientLimit i (λ j. partyIn ws (partyPlace j)) idle l;
+        pairs = λ i h l. firsts-at pairLimit i (λ j. pairIn ws (pairPlace j)) freshPair h;
         lines = λ i h. lines-in-beyond (entryCount ws) ws i (omega (arith, looked-at, count-is));
       }
 
@@ -190,9 +163,8 @@ module _ (ws : List ℕ) (s : soundOf (rackOf ws) ≡ true) where
       record {
         beyond = read-beyond;
         power = power-below (word ws 3);
-        ops = firsts-each (λ (p : Party). p .op < 65536) 8 (λ j. partyIn ws (partyPlace j)) idle (omega arith) (λ i. party-op ws (partyPlace i));
-        ranks = firsts-each (λ (p : Party). RankSmall (p .work)) 8 (λ j. partyIn ws (partyPlace j)) idle tt (λ i. party-rank ws (partyPlace i));
-        messages = firsts-each (λ (x : Slot). HeldOp (x .held)) slotLimit (λ j. slotIn ws (slotPlace j)) empty tt (λ i. held-op ws (slotPlace i));
+        ops = firsts-each (λ (p : Party). p .op < opLimit) clientLimit (λ j. partyIn ws (partyPlace j)) idle (omega arith) (λ i. party-op ws (partyPlace i));
+        messages = firsts-each (λ (x : Slot). TagSmall (x .held)) slotLimit (λ j. slotIn ws (slotPlace j)) empty tt (λ i. held-op ws (slotPlace i));
         entries = lines-fit;
       }
 
@@ -212,26 +184,25 @@ repeated zero i a = refl
 repeated (suc n) zero a = refl
 repeated (suc n) (suc i) a = repeated n i a
 
-every-small : (n : ℕ) → n ≤ 15 → everyReplica n < 32768
+every-small : (n : ℕ) → n ≤ replicaLimit → everyReplica n < powerLimit
 unfolding setBits
-every-small n h = let l : n ≤ 15 = h in omega (arith, every-below n (omega arith), pow-mono {i = n} {j = 15} l)
+every-small n h = let l : n ≤ replicaLimit = h in omega (arith, every-below n (omega arith), pow-mono {i = n} {j = replicaLimit} l)
 
-pub fresh-writable : (ws : List ℕ) → ((j : ℕ) → word ws j ≡ 0) → (replicas clients cells : ℕ) → replicas ≤ 15 → Writable ws (freshRack replicas clients cells)
+pub fresh-writable : (ws : List ℕ) → ((j : ℕ) → word ws j ≡ 0) → (replicas clients cells : ℕ) → replicas ≤ replicaLimit → Writable ws (freshRack replicas clients cells)
 unfolding freshRack
 fresh-writable ws h replicas clients cells n =
     record {
       beyond = record {
-        parties-long = length-replicate 8 idle;
-        pairs-long = length-replicate 240 freshPair;
+        parties-long = length-replicate clientLimit idle;
+        pairs-long = length-replicate pairLimit freshPair;
         wire-long = length-replicate slotLimit empty;
         lines-long = length-replicate entryLimit blank;
-        parties = λ i l u. repeated 8 i idle ∙ sym (zero-party ws (partyPlace i) h);
-        pairs = λ i l u. repeated 240 i freshPair ∙ sym (zero-pair ws (pairPlace i) h);
+        parties = λ i l u. repeated clientLimit i idle ∙ sym (zero-party ws (partyPlace i) h);
+        pairs = λ i l u. repeated pairLimit i freshPair ∙ sym (zero-pair ws (pairPlace i) h);
         lines = λ i l. repeated entryLimit i blank;
       };
       power = every-small replicas n;
-      ops = λ i. rw (repeated 8 i idle) (omega arith);
-      ranks = λ i. rw (repeated 8 i idle) tt;
+      ops = λ i. rw (repeated clientLimit i idle) (omega arith);
       messages = λ i. rw (repeated slotLimit i empty) tt;
       entries = λ i l. absurd (omega arith);
     }
@@ -247,7 +218,3 @@ made-fresh P replicas clients cells h k = go (settingsFit (record { replicas = r
         → P (cond {A = Made} t (record { refusal = 0; rack = freshRack replicas clients cells }) (record { refusal = 1; rack = freshRack 1 1 1 }) .rack)
     go true e = h e
     go false e = k
-
-pub fresh-plain : (replicas clients cells : ℕ) → Plain (freshRack replicas clients cells)
-unfolding freshRack
-fresh-plain replicas clients cells i h = rw (repeated 8 i idle)

@@ -76,8 +76,8 @@ row-here ws at e h s =
     ext-getD 0 (take 4 (drop at ws)) (rowOf e) (l ∙ sym (row-length e))
     (λ i k. getD-take 4 (drop at ws) i 0 (omega arith) ∙ getD-drop at ws i 0 ∙ s i (omega (arith, row-length e)))
 
-rows-first : (ws : List ℕ) (lines : List Line) (n : ℕ) → 3109 + 4 * n ≤ length ws → n ≤ length lines
-    → ((i : ℕ) → i < n → Stands ws (entryPlace i) (rowOf (entryIn lines i))) → take (4 * n) (drop 3109 ws) ≡ rowsOf (entriesOf n lines)
+rows-first : (ws : List ℕ) (lines : List Line) (n : ℕ) → entryPlace 0 + 4 * n ≤ length ws → n ≤ length lines
+    → ((i : ℕ) → i < n → Stands ws (entryPlace i) (rowOf (entryIn lines i))) → take (4 * n) (drop (entryPlace 0) ws) ≡ rowsOf (entriesOf n lines)
 unfolding allOf
 rows-first ws lines zero h k s = refl
 rows-first ws lines (suc n) h k s =
@@ -85,14 +85,14 @@ rows-first ws lines (suc n) h k s =
     let a : 4 * suc n ≡ 4 * n + 4 = omega arith in
     let b : suc n ≡ n + 1 = omega arith in
     let e : Entry = entryIn lines n in
-    let row : take 4 (drop (4 * n) (drop 3109 ws)) ≡ rowOf e = ap (take 4) (drop-drop (4 * n) 3109 ws) ∙ row-here ws (entryPlace n) e (omega arith) (s n (omega arith)) in
-    let first : take (4 * n) (drop 3109 ws) ≡ rowsOf (entriesOf n lines) = rows-first ws lines n (omega arith) (omega arith) (λ i l. s i (omega arith)) in
+    let row : take 4 (drop (4 * n) (drop (entryPlace 0) ws)) ≡ rowOf e = ap (take 4) (drop-drop (4 * n) (entryPlace 0) ws) ∙ row-here ws (entryPlace n) e (omega arith) (s n (omega arith)) in
+    let first : take (4 * n) (drop (entryPlace 0) ws) ≡ rowsOf (entriesOf n lines) = rows-first ws lines n (omega arith) (omega arith) (λ i l. s i (omega arith)) in
     let more : rowsOf (entriesOf n lines) ++ rowOf e ≡ rowsOf (entriesOf (n + 1) lines) =
     ap (λ (x : List ℕ). rowsOf (entriesOf n lines) ++ x) (sym (rows-one e))
     ∙ sym (rows-append (entriesOf n lines) (e ∷ []))
     ∙ ap rowsOf (sym (entry-next n lines none (omega arith))) in
-    ap (λ (x : ℕ). take x (drop 3109 ws)) a
-    ∙ take-add (4 * n) 4 (drop 3109 ws)
+    ap (λ (x : ℕ). take x (drop (entryPlace 0) ws)) a
+    ∙ take-add (4 * n) 4 (drop (entryPlace 0) ws)
     ∙ ap₂ (λ (x y : List ℕ). x ++ y) first row
     ∙ more
     ∙ ap (λ (x : ℕ). rowsOf (entriesOf x lines)) (sym b)
@@ -104,7 +104,7 @@ called-rows ws c =
     let s : soundOf (rackOf ws) ≡ true = called-led c .sound in
     let n : rackOf ws .count ≡ word ws 4 = count-is ws s in
     let few = sound-of (rackOf ws) s .entries in
-    ap (λ (k : ℕ). take (4 * k) (drop 3109 ws)) (sym n)
+    ap (λ (k : ℕ). take (4 * k) (drop (entryPlace 0) ws)) (sym n)
     ∙ rows-first ws (rackOf ws .lines) (rackOf ws .count) (omega (arith, called-long c)) (omega (arith, read-writable ws s .beyond .lines-long)) (rows-stand c)
 
 -- So where 16,384 bytes are lent the writer puts the record's bytes at their front, and refuses nothing.

@@ -6,22 +6,17 @@ use mathlib.Core.List.{List, [], _∷_}
 use native.Mathlib.Omega.{arith}
 use lib.Dec.{eqb}
 use lib.ListN.{length, getD, set, length-set}
-use lib.Pow.{pow-mono}
 use lib.Seq.{getD-set-same, getD-set-other}
 use borrow.Author.Tests.{eqb-true, eqb-false}
 use Rattle.record.specs.declared.Entry.{Entry}
 use Rattle.record.specs.declared.Entry.the-variants.{ReadAsked}
-use Rattle.quorum.specs.Sets.{within, membersOf}
-use Rattle.quorum.specs.laws.SetLaws.{within-below}
+use Rattle.record.specs.Entry.{cellLimit}
+use Rattle.quorum.specs.Sets.{membersOf}
 use Rattle.slots.specs.Free.{firstFree}
 use Rattle.stamps.specs.Stamp.{freshPair}
-use Rattle.method.specs.declared.Body.{Body}
-use Rattle.method.specs.declared.Body.the-variants.{Ask, Tell, Keep, Kept}
 use Rattle.method.specs.declared.Message.{Message}
 use Rattle.method.specs.declared.InSlot.{InSlot}
 use Rattle.method.specs.declared.InSlot.the-variants.{Empty, Full}
-use Rattle.method.specs.declared.Work.{Work}
-use Rattle.method.specs.declared.Work.the-variants.{Idle, Asking, Keeping}
 use Rattle.method.specs.declared.Party.{Party}
 use Rattle.method.specs.declared.Event.{Event}
 use Rattle.method.specs.declared.Note.{Note}
@@ -35,78 +30,34 @@ use Rattle.rack.specs.declared.Slot.{Slot}
 use Rattle.rack.specs.declared.Settings.{Settings}
 use Rattle.rack.specs.declared.Rack.{Rack}
 use Rattle.rack.specs.Places.{empty, full, blank, idle, partyAt, heldIn, heldAt, freeAt, sentOf}
-use Rattle.rack.specs.Sound.{heldFits, workFits, bodyFits, soundOf}
+use Rattle.rack.specs.Sound.{heldFits, soundOf}
 use Rattle.rack.specs.Run.{addressed, cleared, recorded, entriesIn, appliedOf, eventOf, turn, runFrom, runOf}
 use Rattle.rack.specs.Refusals.{decided}
 use Rattle.rack.specs.Looking.{slotOf, placeIn}
-use Rattle.rack.specs.laws.SoundLaws.{Sized, Sound, sound-of, named, ask-open, keep-open}
+use Rattle.rack.specs.laws.SoundLaws.{Sized, sound-of, named}
 use Rattle.rack.specs.laws.Decided.{Decided, decided-fits}
-use Rattle.rack.specs.Looking.{lookedHeld, lookedClient, lookedParty, lookedPlace, lookedPair}
+use Rattle.rack.specs.Looking.{lookedHeld, lookedClient, lookedPlace, sight}
 use Rattle.runs.specs.laws.Stays.{set-either, stays, sound-stays}
 use Rattle.runs.specs.laws.Steps.{run-from}
-use Rattle.back.specs.laws.Agrees.{decided-plan}
+use Rattle.layout.specs.Layout.{opLimit, powerLimit}
 use Rattle.layout.specs.Writing.{entryIn}
-use Rattle.layout.specs.laws.Trip.{entryFits, bodySmall, heldSmall, workSmall}
-use Rattle.layout.specs.Plain.{plain, plainParty}
+use Rattle.layout.specs.laws.Trip.{entryFits}
+use Rattle.layout.specs.laws.Small.{TagSmall}
 use Rattle.layout.specs.laws.Again.{Sayable}
-use Rattle.lent.specs.Plain.{Plain}
 use Rattle.lent.specs.laws.Whole.{Beyond}
-use Rattle.lent.specs.laws.Plans.{RankSmall, HeldOp, NoteFits, PlanStays, DecisionStays, rank-below, plan-stays}
+use Rattle.lent.specs.laws.Plans.{NoteFits, PlanStays, plan-stays}
 
 -- a rack that can be written into the words ws and read again
 pub record Writable (ws : List ℕ) (r : Rack) : Type 0 where
   pub beyond : Beyond ws r
-  pub power : r .power < 32768
-  pub ops : (i : ℕ) → partyAt r i .op < 65536
-  pub ranks : (i : ℕ) → RankSmall (partyAt r i .work)
-  pub messages : (i : ℕ) → HeldOp (heldAt r i)
+  pub power : r .power < powerLimit
+  pub ops : (i : ℕ) → partyAt r i .op < opLimit
+  pub messages : (i : ℕ) → TagSmall (heldAt r i)
   pub entries : (i : ℕ) → i < r .count → entryFits (entryIn (r .lines) i)
 
--- ---- a sound one is small
-
-set-below : (n s : ℕ) → n ≤ 15 → within n s ≡ true → s < 65536
-set-below n s h e = let l : n ≤ 15 = h in omega (arith, within-below n s e, pow-mono {i = n} {j = 15} l)
-
-body-small : (z : Settings) (b : Body) → Sized z → bodyFits z b ≡ true → bodySmall b
-unfolding bodyFits
-body-small z Ask n h = tt
-body-small z (Tell q) n h = rank-below z q n h
-body-small z (Keep q) n h = rank-below z q n h
-body-small z Kept n h = tt
-
-held-small : (z : Settings) (x : InSlot) → Sized z → heldFits z x ≡ true → HeldOp x → heldSmall x
-unfolding heldFits
-held-small z Empty n h o = tt
-held-small z (Full m) n h o =
-    let q = named z m h in
-    record {
-      client = omega (arith, q .client, n .clients);
-      replica = omega (arith, q .replica, n .replicas);
-      cell = omega (arith, q .cell, n .cells);
-      op = o;
-      body = body-small z (m .body) n (q .body);
-    }
-
-work-small : (z : Settings) (w : Work) → Sized z → workFits z w ≡ true → RankSmall w → workSmall w
-work-small z Idle n h k = tt
-work-small z (Asking cell goal set held) n h k =
-    let q = ask-open z cell goal set held h in
-    (omega (arith, q .cell, n .cells), (set-below (z .replicas) set (n .replicas) (q .set), k))
-work-small z (Keeping cell goal set held) n h k =
-    let q = keep-open z cell goal set held h in
-    (omega (arith, q .cell, n .cells), (set-below (z .replicas) set (n .replicas) (q .set), k))
-
-pub small-of : (ws : List ℕ) (r : Rack) → soundOf r ≡ true → Writable ws r → Sayable r
-small-of ws r h k =
-    let s : Sound r = sound-of r h in
-    record {
-      power = k .power;
-      ops = λ i l. k .ops i;
-      works = λ i l. work-small (r .settings) (partyAt r i .work) (s .settings) (s .parties i l) (k .ranks i);
-      ranks = λ a x la lx. rank-below (r .settings) (getD (r .pairs) (16 * a + x) freshPair) (s .settings) (s .pairs a x la lx);
-      slots = λ i l. held-small (r .settings) (heldAt r i) (s .settings) (s .slots i l) (k .messages i);
-      entries = k .entries;
-    }
+-- what words can say of it again
+pub small-of : (ws : List ℕ) (r : Rack) → Writable ws r → Sayable r
+small-of ws r k = record { power = k .power; ops = λ i l. k .ops i; tags = λ i l. k .messages i; entries = k .entries }
 
 -- ---- what an event leaves
 
@@ -153,20 +104,20 @@ recorded-fits Nothing n lines room f h i l = h i (omega arith)
 recorded-fits (Asked e) n lines room f h i l = one-more n lines e (omega arith) f h i l
 recorded-fits (Ended e) n lines room f h i l = one-more n lines e (omega arith) f h i l
 
-sent-ops : (m : Message) (ks : List ℕ) (w : List Slot) → m .op < 65536 → ((i : ℕ) → HeldOp (heldIn w i)) → (i : ℕ) → HeldOp (heldIn (sentOf w (addressed m ks)) i)
+sent-ops : (m : Message) (ks : List ℕ) (w : List Slot) → m .op < opLimit → ((i : ℕ) → TagSmall (heldIn w i)) → (i : ℕ) → TagSmall (heldIn (sentOf w (addressed m ks)) i)
 unfolding sentOf addressed
 sent-ops m [] w o h i = h i
 sent-ops m (k ∷ ks) w o h i =
     let s : Slot = full (messageOf (m .client) (record { 0 = k }) (m .cell) (m .op) (m .body)) in
-    sent-ops m ks (set w (firstFree (freeAt w)) s) o (λ j. set-either (λ (x : Slot). HeldOp (x .held)) w (firstFree (freeAt w)) s empty j o (h j)) i
+    sent-ops m ks (set w (firstFree (freeAt w)) s) o (λ j. set-either (λ (x : Slot). TagSmall (x .held)) w (firstFree (freeAt w)) s empty j o (h j)) i
 
-cleared-ops : (b : Bool) (j : ℕ) (w : List Slot) → ((i : ℕ) → HeldOp (heldIn w i)) → (i : ℕ) → HeldOp (heldIn (cleared b j w) i)
+cleared-ops : (b : Bool) (j : ℕ) (w : List Slot) → ((i : ℕ) → TagSmall (heldIn w i)) → (i : ℕ) → TagSmall (heldIn (cleared b j w) i)
 unfolding cleared
-cleared-ops true j w h i = set-either (λ (x : Slot). HeldOp (x .held)) w j empty empty i tt (h i)
+cleared-ops true j w h i = set-either (λ (x : Slot). TagSmall (x .held)) w j empty empty i tt (h i)
 cleared-ops false j w h i = h i
 
 -- the pair that a message is about is within the sizes
-place-within : (z : Settings) (x : InSlot) → Sized z → heldFits z x ≡ true → (placeIn x < 16 * z .replicas) × (placeIn x % 16 < z .cells)
+place-within : (z : Settings) (x : InSlot) → Sized z → heldFits z x ≡ true → (placeIn x < cellLimit * z .replicas) × (placeIn x % cellLimit < z .cells)
 unfolding placeIn heldFits
 place-within z Empty n h = (omega (arith, n .some-replica), omega (arith, n .some-cell))
 place-within z (Full m) n h =
@@ -176,12 +127,11 @@ place-within z (Full m) n h =
 -- ---- an event that is done
 
 module _ (ws : List ℕ) (r : Rack) (e : Event) (p : Plan) (h : soundOf r ≡ true) (g : decided r e ≡ Go p) (k : Writable ws r) where
-  left : PlanStays (lookedParty r e .work) p
+  left : PlanStays p
   left =
       let d : Decided r e p = decided-fits r e p h g in
-      subst (DecisionStays (lookedParty r e .work)) (decided-plan r e p h g)
-      (plan-stays (r .settings) (sound-of r h .settings) (r .power) (k .power) (lookedParty r e) (lookedPair r e) (k .ops (lookedClient r e)) (k .ranks (lookedClient r e))
-      (lookedHeld r e) (d .looked .held) (k .messages (slotOf e)) e (d .inside))
+      plan-stays (r .settings) (sound-of r h .settings) (sight r e) (k .power) (k .ops (lookedClient r e)) (lookedHeld r e) (d .looked .held) (k .messages (slotOf e)) e
+      (d .inside) p (d .does)
 
   room : r .count + entriesIn (p .note) ≤ length (r .lines)
   unfolding appliedOf
@@ -203,8 +153,8 @@ module _ (ws : List ℕ) (r : Rack) (e : Event) (p : Plan) (h : soundOf r ≡ tr
         lines-long = recorded-long (p .note) (r .count) (r .lines) ∙ b .lines-long;
         parties = λ i l u. getD-set-other (r .parties) (lookedClient r e) i (p .party) idle (λ q. omega (arith, d .looked .client)) ∙ b .parties i l u;
         pairs = λ i l u. getD-set-other (r .pairs) (lookedPlace r e) i (p .pair) freshPair
-            (λ q. (let a : i < 16 * r .settings .replicas = omega (arith, w .0) in
-            let c : i % 16 ≡ lookedPlace r e % 16 = ap (λ (y : ℕ). y % 16) q in
+            (λ q. (let a : i < cellLimit * r .settings .replicas = omega (arith, w .0) in
+            let c : i % cellLimit ≡ lookedPlace r e % cellLimit = ap (λ (y : ℕ). y % cellLimit) q in
             omega (arith, u a, w .1))) ∙ b .pairs i l u;
         lines = recorded-beyond (p .note) (r .count) (r .lines) (b .lines);
       }
@@ -215,20 +165,11 @@ module _ (ws : List ℕ) (r : Rack) (e : Event) (p : Plan) (h : soundOf r ≡ tr
       record {
         beyond = beyond-stays;
         power = left .power;
-        ops = λ i. set-either (λ (q : Party). q .op < 65536) (r .parties) (lookedClient r e) (p .party) idle i (left .op) (k .ops i);
-        ranks = λ i. set-either (λ (q : Party). RankSmall (q .work)) (r .parties) (lookedClient r e) (p .party) idle i (left .rank) (k .ranks i);
+        ops = λ i. set-either (λ (q : Party). q .op < opLimit) (r .parties) (lookedClient r e) (p .party) idle i (left .op) (k .ops i);
         messages = sent-ops (p .message) (membersOf (r .settings .replicas) (p .to)) (cleared (p .clear) (slotOf e) (r .wire)) (left .message)
             (cleared-ops (p .clear) (slotOf e) (r .wire) (k .messages));
         entries = recorded-fits (p .note) (r .count) (r .lines) room (left .note) (k .entries);
       }
-
-  pub plain-stays : Plain r → Plain (appliedOf r e p)
-  unfolding appliedOf
-  plain-stays f i l =
-      let d : Decided r e p = decided-fits r e p h g in
-      let w : plain (lookedParty r e .work) ≡ lookedParty r e .work = ap (λ (q : Party). q .work) (f (lookedClient r e) (d .looked .client)) in
-      set-either (λ (q : Party). plainParty q ≡ q) (r .parties) (lookedClient r e) (p .party) idle i
-      (λ j. record { stopped = p .party .stopped; op = p .party .op; work = left .told w j }) (f i l)
 
 -- ---- a run
 
@@ -250,8 +191,3 @@ run-keeps P step done r (suc n) (k ∷ a ∷ b ∷ v ∷ es) s h = go (decided r
 
 pub run-writable : (ws : List ℕ) (r : Rack) (n : ℕ) (es : List ℕ) → soundOf r ≡ true → Writable ws r → Writable ws (runOf r n es .rack)
 run-writable ws r n es s k = rw (run-from r n es) (run-keeps (Writable ws) (λ q e p h g. writable-stays ws q e p h g) 0 r n es s k)
-
-pub run-plain : (ws : List ℕ) (r : Rack) (n : ℕ) (es : List ℕ) → soundOf r ≡ true → Writable ws r → Plain r → Plain (runOf r n es .rack)
-run-plain ws r n es s k f =
-    rw (run-from r n es)
-    (run-keeps (λ (q : Rack). Writable ws q × Plain q) (λ q e p h g x. (writable-stays ws q e p h g (x .0), plain-stays ws q e p h g (x .0) (x .1))) 0 r n es s (k, f) .1)

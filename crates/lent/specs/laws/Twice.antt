@@ -20,20 +20,18 @@ use Rattle.layout.specs.Layout.{wordCount}
 use Rattle.layout.specs.Reading.{rackOf}
 use Rattle.layout.specs.Writing.{writtenOf}
 use Rattle.layout.specs.Calls.{WordsOutcome, answerOf, unfit, leaves, runOutcome}
-use Rattle.lent.specs.Plain.{plainRack, plainRan}
 use Rattle.lent.specs.Together.{together}
-use Rattle.lent.specs.laws.Whole.{whole-plain}
+use Rattle.lent.specs.laws.Whole.{whole}
 use Rattle.lent.specs.laws.Stays.{small-of, run-keeps}
 use Rattle.lent.specs.laws.Again.{none-done, some-done, after-sound, after-writable}
 use Rattle.lent.specs.laws.Calls.{written-long}
-use Rattle.lent.specs.laws.Alike.{run-alike}
-use Rattle.lent.specs.laws.Over.{written-alike, written-over}
+use Rattle.lent.specs.laws.Over.{written-over}
 
 -- ---- sizes stay, and entries too
 
 -- the sizes of one rack are those of the other, which has no fewer entries
 record Grown (r q : Rack) : Type 0 where
-  sizes : r .settings ≡ q .settings
+  settings : r .settings ≡ q .settings
   entries : r .count ≤ q .count
 
 run-grows : (r : Rack) (n : ℕ) (es : List ℕ) → soundOf r ≡ true → Grown r (runOf r n es .rack)
@@ -67,11 +65,11 @@ module _ (ws : List ℕ) (n : ℕ) (es : List ℕ) (m : ℕ) (rest : List ℕ) (
   mid-sound : soundOf mid ≡ true
   mid-sound = after-sound ws n es l start-sound
 
-  same-rack : plainRack (rackOf left) ≡ plainRack mid
-  same-rack = let w = after-writable ws n es l start-sound in whole-plain mid ws mid-sound (small-of ws mid mid-sound w) l (w .beyond)
+  same-rack : rackOf left ≡ mid
+  same-rack = let w = after-writable ws n es l start-sound in whole mid ws mid-sound (small-of ws mid w) l (w .beyond)
 
-  same-ran : plainRan again ≡ plainRan straight
-  same-ran = run-alike (rackOf left) mid m rest same-rack mid-sound
+  same-ran : again ≡ straight
+  same-ran = ap (λ (q : Rack). runOf q m rest) same-rack
 
   same-done : again .done ≡ straight .done
   same-done = ap (λ (q : Ran). q .done) same-ran
@@ -84,7 +82,7 @@ module _ (ws : List ℕ) (n : ℕ) (es : List ℕ) (m : ℕ) (rest : List ℕ) (
       go true e = ap (λ (q : Rack). writtenOf q ws) (sym (none-done mid m rest (sym same-done ∙ eqb-true (again .done) 0 e)))
       go false e =
           let g : Grown mid (straight .rack) = run-grows mid m rest mid-sound in
-          written-alike (again .rack) (straight .rack) left (ap (λ (q : Ran). q .rack) same-ran)
+          ap (λ (q : Ran). writtenOf (q .rack) left) same-ran
           ∙ written-over mid (straight .rack) ws (run-stays mid m rest mid-sound) l (g .settings) (g .entries)
 
   -- the second call

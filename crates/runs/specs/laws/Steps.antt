@@ -150,6 +150,17 @@ none-sound r (suc n) (k ∷ a ∷ []) h d l = absurd (omega arith)
 none-sound r (suc n) (k ∷ a ∷ b ∷ []) h d l = absurd (omega arith)
 none-sound r (suc n) (k ∷ a ∷ b ∷ v ∷ ws) h d l = rw (decided-unsound r (eventOf k a b v) h)
 
+-- and nothing is done on it
+pub from-unsound : (done : ℕ) (r : Rack) (left : ℕ) (ws : List ℕ) → soundOf r ≡ false
+    → (runFrom done r left ws .done ≡ done) × (runFrom done r left ws .rack ≡ r)
+unfolding runFrom turn
+from-unsound done r zero ws u = (refl, refl)
+from-unsound done r (suc left) [] u = (refl, refl)
+from-unsound done r (suc left) (k ∷ []) u = (refl, refl)
+from-unsound done r (suc left) (k ∷ a ∷ []) u = (refl, refl)
+from-unsound done r (suc left) (k ∷ a ∷ b ∷ []) u = (refl, refl)
+from-unsound done r (suc left) (k ∷ a ∷ b ∷ v ∷ ws) u = rw (decided-unsound r (eventOf k a b v) u) (refl, refl)
+
 pub run-steps : (r : Rack) (allowance : ℕ) (ws : List ℕ) → Exact r allowance ws (runOf r allowance ws)
 unfolding runOf
 run-steps r allowance ws =
