@@ -26,7 +26,7 @@ keep_absolute_path() {
 }
 
 need_tools() {
-    for tool in awk cat cp cut date env find mkdir mktemp mv rm sha256sum sort tee tr uname; do
+    for tool in awk cat cp cut date env find mkdir mktemp mv rm sha256sum sort tr uname; do
         command -v "$tool" >/dev/null || give_up "$tool isn't in a folder of PATH"
     done
 }
@@ -244,19 +244,18 @@ meaning() { # FILE
         END { print (found == 1 && (NR == 1 || !ENVIRON["ONE_LINE"]) ? status : "unknown") }' "$1"
 }
 
-# Sets the result of a run: what its text means, where all of it was delivered, the program ended well, and the text is a known one.
-conclude() { # FILE-WITH-ITS-TEXT DELIVERED
+# Sets the result of a run: what its text means, where the program ended well and the text is a known one. Answers whether that is so.
+conclude() { # FILE-WITH-ITS-TEXT
     ended=$(cat "$room/ended" 2>/dev/null)
     result=$(meaning "$1")
-    if [ "$2" -ne 0 ]; then
-        say "the answer couldn't be written to standard output"
-    elif [ "$ended" != 0 ]; then
-        say "the program failed${ended:+ with status $ended}"
-    elif [ "$result" = unknown ]; then
-        say "the program wrote what it never should"
-    else
-        return
-    fi
+    if [ "$ended" = 0 ] && [ "$result" != unknown ]; then return; fi
+    result=3
+    if [ "$ended" = 0 ]; then say "the program wrote what it never should"; else say "the program failed${ended:+ with status $ended}"; fi
+    return 1
+}
+
+not_delivered() {
+    say "the answer couldn't be written to standard output"
     result=3
 }
 
@@ -266,13 +265,13 @@ run_to_end() {
     echo "$?" >"$room/ended"
 }
 
-# Passes one line on as soon as it is there, after the words $1. Then it waits for the program, which reads its input on to the end.
+# Passes one known line on as soon as it is there, after the words $1. Then it waits for the program, which reads its input on to the end.
 pass_line() { # WORDS
     delivered=0
     : >"$room/wrote"
     if IFS= read -r line; then
-        printf '%s%s\n' "$1" "$line" 2>/dev/null || delivered=1
         printf '%s\n' "$line" >"$room/wrote"
+        [ "$(meaning "$room/wrote")" = unknown ] || printf '%s%s\n' "$1" "$line" 2>/dev/null || delivered=1
     fi
     cat >>"$room/wrote"
     return "$delivered"
@@ -283,27 +282,31 @@ in_lines() { # FILE
     words=''
     [ "$several" -eq 0 ] || words="$(shown "$1"): "
     run_to_end | pass_line "$words"
-    conclude "$room/wrote" "$?"
+    delivered=$?
+    conclude "$room/wrote"
+    [ "$delivered" -eq 0 ] || not_delivered
 }
 
+# Not by tee: to it a pipe that nobody reads any more is no error.
 pass_text() { # FILE
     [ "$several" -eq 0 ] || printf '%s==> %s <==\n' "$gap" "$(shown "$1")" 2>/dev/null || return
-    tee "$room/wrote" 2>/dev/null
-}
-
-# A text for each input, with its name over it where there are several, as head does.
-in_text() { # FILE
-    run_to_end | pass_text "$1"
-    conclude "$room/wrote" "$?"
     gap='
 '
+    cat "$room/wrote" 2>/dev/null
+}
+
+# A text for each input, with its name over it where there are several, as head does. A program writes its text at the end, so nothing waits for it.
+in_text() { # FILE
+    run_to_end >"$room/wrote"
+    conclude "$room/wrote" || return
+    pass_text "$1" || not_delivered
 }
 
 # Bytes for one input. The program delivers them itself, and says how that went in a line on standard error, which is shown where something is amiss.
 in_bytes() { # FILE
     run_to_end 2>"$room/said"
-    conclude "$room/said" 0
-    [ "$result" = 0 ] || cat "$room/said" >&2
+    conclude "$room/said"
+    if [ "$result" != 0 ] && [ -s "$room/said" ]; then say "$(cat "$room/said")"; fi
 }
 
 # ---- commands
