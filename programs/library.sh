@@ -53,6 +53,7 @@ stop_by() { # SIGNAL
 # Whatever ends this shell by itself, an error of its own too, is status 3: it is `outcome` that counts, and only an answer changes it.
 begin() {
     outcome=3 room=''
+    set -u
     unset IFS CDPATH
     LC_ALL=C
     export LC_ALL
