@@ -294,6 +294,16 @@ static void verdict_is(const char *record, size_t length, int lawful, uint32_t c
     MUST(lawful || adze_unlawful_cell(verdict) == cell);
 }
 
+/* With a count of 0 nothing behind the pointer is looked at: a null pointer will do. */
+static void nothing_lent(void) {
+    MUST(adze_refusal_of(adze_read_number(NULL, 0, 0)) == ADZE_REFUSED_BYTES_END);
+    MUST(adze_refusal_of(adze_write_number(NULL, 0, 0, 1)) == ADZE_REFUSED_LENT_TOO_SHORT);
+    MUST(adze_read_record(NULL, 0, NULL, 0) == 0 && adze_write_record(NULL, 0, NULL, 0) == 0 && adze_verdict(NULL, 0) == 0);
+    MUST(adze_refusal_of(adze_rack_made(NULL, 0, 1, 1, 1)) == ADZE_REFUSED_LENT_TOO_SHORT);
+    make(1, 1, 1);
+    MUST(adze_rack_run(rack, ADZE_RACK_WORDS, 1, NULL, 0) == 0);
+}
+
 static void answers_taken_apart(void) {
     const uint64_t parts = 0x7FB5C3F0E1D2A697;
     MUST(adze_number_of(parts) == 0xE1D2A697 && adze_refusal_of(parts) == 0xF0 && adze_count_of(parts) == 0xC3);
@@ -316,6 +326,7 @@ int main(void) {
     refusals_at_the_end();
     refusals_of_records();
     a_row();
+    nothing_lent();
     answers_taken_apart();
     return 0;
 }
