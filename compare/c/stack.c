@@ -1,5 +1,5 @@
 /* Measures how much stack each call takes: the call is run on a stack of its own that was painted before, and what isn't paint any more was used.
- * A line for each call; with a number of bytes as argument, fails where one takes more. The start of such a stack (some hundred bytes) is counted too. */
+ * A line for each call; with a number of bytes as argument, fails where one takes more. The first few bytes of such a stack are counted too. */
 #define _XOPEN_SOURCE 700
 #include <stdio.h>
 #include <stdlib.h>
