@@ -114,20 +114,92 @@ fn two_write_at_once() -> Drill {
         events: scenes.concat(),
     }
 }
+/// docs/FOR-TEACHERS.md is held to the drills: what it shows is what they are. What it has the reader type is tried by
+/// drill-samples.
 #[cfg(test)]
 mod tests {
     use super::*;
-    #[test]
-    fn show() {
-        for d in all() {
-            for n in 0..=d.events.len() as u32 {
-                println!(
-                    "{} {:?}\n{}",
-                    d.name,
-                    n.checked_sub(1).map(|i| d.events[i as usize]),
-                    drill(&d.script_within(n))
-                );
-            }
+    use crate::samples;
+
+    const PAGE: &str = include_str!("../../docs/FOR-TEACHERS.md");
+
+    /// The part of the page, from heading to heading, that makes the drill's script.
+    fn part_of(drill: &Drill) -> &'static str {
+        let makes = format!("> {}.script\n", drill.name);
+        let parts: Vec<_> = PAGE.split("\n## ").filter(|part| part.contains(&makes)).collect();
+        assert_eq!(parts.len(), 1, "{}", drill.name);
+        parts[0]
+    }
+
+    /// The blocks of lines that are set in, without the spaces.
+    fn blocks(part: &str) -> Vec<String> {
+        let set_in = |line: &&str| line.starts_with("    ");
+        let mut rest = part.lines().peekable();
+        let mut blocks = Vec::new();
+        while rest.peek().is_some() {
+            let block: String =
+                std::iter::from_fn(|| rest.next_if(set_in)).map(|line| format!("{}\n", &line[4..])).collect();
+            blocks.extend((!block.is_empty()).then_some(block));
+            rest.next_if(|line| !set_in(line));
         }
+        blocks
+    }
+
+    /// What stands in the first column of a table, if it is set as code.
+    fn first_column(line: &str) -> Option<&str> {
+        line.strip_prefix("| `")?.split("` |").next()
+    }
+
+    /// The bytes of the table of events.
+    fn bytes_of_table(part: &str) -> Vec<u8> {
+        let byte = |hex: &str| u8::from_str_radix(hex, 16).expect("two hex digits");
+        part.lines().filter_map(first_column).flat_map(|bytes| bytes.split(' ')).map(byte).collect()
+    }
+
+    /// The allowance that a block gives a script in place of its own.
+    fn allowance_given(block: &str) -> Option<u32> {
+        let octal = block.strip_prefix("{ head -c 3 ")?.split("printf '\\").nth(1)?.split('\'').next()?;
+        u32::from_str_radix(octal, 8).ok()
+    }
+
+    #[test]
+    fn no_event_of_a_drill_is_refused() {
+        for drill in all() {
+            let start = format!("done {}\nrefused none\n", drill.events.len());
+            assert!(drill.text().starts_with(&start), "{}", drill.name);
+        }
+    }
+
+    #[test]
+    fn the_table_of_each_drill_has_the_bytes_of_its_script() {
+        for drill in all() {
+            assert_eq!(bytes_of_table(part_of(&drill)), drill.script(), "{}", drill.name);
+        }
+    }
+
+    #[test]
+    fn the_texts_on_the_page_are_those_of_the_drills() {
+        for drill in all() {
+            let blocks = blocks(part_of(&drill));
+            let shown: Vec<_> = blocks.iter().filter(|block| block.starts_with("done ")).cloned().collect();
+            let given: Vec<_> = blocks.iter().filter_map(|block| allowance_given(block)).collect();
+            let mut right: Vec<_> =
+                given.iter().map(|allowance| super::drill(&drill.script_within(*allowance))).collect();
+            assert!(!right.is_empty() && !right.contains(&drill.text()), "{}: it stops on the way", drill.name);
+            right.push(drill.text());
+            assert_eq!(shown, right, "{}", drill.name);
+        }
+    }
+
+    #[test]
+    fn the_page_says_what_the_judge_says() {
+        for drill in all() {
+            let command = format!("./drill --record samples/{}.script | ./judge -\n{}\n", drill.name, drill.right);
+            assert!(blocks(part_of(&drill)).contains(&command), "{}", drill.name);
+        }
+        let judged: Vec<_> = blocks(PAGE).into_iter().filter(|block| block.starts_with("./judge ")).collect();
+        let right = |sample: &samples::Sample| format!("./judge samples/{}\n{}\n", sample.file, sample.right);
+        let known: Vec<_> = samples::all().iter().map(right).collect();
+        assert!(!judged.is_empty() && judged.iter().all(|block| known.contains(block)), "{judged:?}");
     }
 }
