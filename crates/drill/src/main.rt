@@ -3,7 +3,7 @@ use input::Ending;
 use libc::STDOUT_FILENO;
 
 // The longest script that is taken has one byte less.
-const TOO_LONG: usize = 2097153;
+const TOO_LONG: usize = play::LONGEST + 1;
 
 // Writes what there is to say of a script.
 fn say(script: &[u8]) {
