@@ -1,5 +1,5 @@
-/* The program that the Rattle library is linked into. It is for x86-64, as the library is, stands on no C library, and
- * is run by `compare`, under the kit's emulator where the processor is another one.
+/* The program that the Rattle library is linked into. It is for x86-64 or 64-bit Arm, as the library is, stands on no C library, and
+ * is run by `compare`, under an emulator where the processor is another one.
  *
  * It reads batches of requests from standard input and writes a batch of responses for each. A batch is a count of bytes
  * (four of them) and then these bytes. A request is a head and then its source; a response is the call's answer, a word
@@ -84,14 +84,33 @@ int memcmp(const void *one, const void *other, size_t count) {
 
 int bcmp(const void *one, const void *other, size_t count) { return memcmp(one, other, count); }
 
+#ifdef __x86_64__
+enum { READ = 0, WRITE = 1, EXIT = 60 };
+
 static long system_call(long number, long first, void *memory, size_t count) {
     long answer;
     __asm__ volatile("syscall" : "=a"(answer) : "a"(number), "D"(first), "S"(memory), "d"(count) : "rcx", "r11", "memory");
     return answer;
 }
 
+__asm__(".globl _start\n_start:\n xor %ebp, %ebp\n and $-16, %rsp\n call host_main\n");
+#else
+enum { READ = 63, WRITE = 64, EXIT = 93 };
+
+static long system_call(long number, long first, void *memory, size_t count) {
+    register long answer __asm__("x0") = first;
+    register void *second __asm__("x1") = memory;
+    register size_t third __asm__("x2") = count;
+    register long call __asm__("x8") = number;
+    __asm__ volatile("svc 0" : "+r"(answer) : "r"(second), "r"(third), "r"(call) : "memory");
+    return answer;
+}
+
+__asm__(".globl _start\n_start:\n mov x29, xzr\n mov x30, xzr\n bl host_main\n");
+#endif
+
 static _Noreturn void end(int status) {
-    for (;;) system_call(60, status, 0, 0);
+    for (;;) system_call(EXIT, status, 0, 0);
 }
 
 /* Reads or writes all of it. No more input at the start of a batch is the end of the run. */
@@ -242,9 +261,9 @@ static size_t respond(const struct head *h, const uint8_t *sent, size_t at) {
 
 static void serve_batch(void) {
     uint32_t length;
-    transfer(0, 0, &length, sizeof length, 1);
+    transfer(READ, 0, &length, sizeof length, 1);
     if (length > MOST_REQUESTS) end(7);
-    transfer(0, 0, requests, length, 0);
+    transfer(READ, 0, requests, length, 0);
     size_t at = 0, answered = 0;
     while (at < length) {
         struct head h;
@@ -254,8 +273,8 @@ static void serve_batch(void) {
         at += source_size(&h);
     }
     uint32_t count = (uint32_t)answered;
-    transfer(1, 1, &count, sizeof count, 0);
-    transfer(1, 1, responses, answered, 0);
+    transfer(WRITE, 1, &count, sizeof count, 0);
+    transfer(WRITE, 1, responses, answered, 0);
 }
 
 _Noreturn void host_main(void) {
@@ -266,5 +285,3 @@ _Noreturn void host_main(void) {
     memset(ones, 1, sizeof ones);
     for (;;) serve_batch();
 }
-
-__asm__(".globl _start\n_start:\n xor %ebp, %ebp\n and $-16, %rsp\n call host_main\n");

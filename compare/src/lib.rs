@@ -3,6 +3,7 @@
 
 #![forbid(unsafe_code)]
 
+pub mod drills;
 pub mod histories;
 pub mod law;
 pub mod making;

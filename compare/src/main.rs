@@ -25,8 +25,8 @@ use std::thread;
 use std::time::Instant;
 
 const USAGE: &str = "usage: compare [all | records | verdicts | bench-sheet] [--seed NUMBER]
-       compare samples FOLDER          makes the sample records
-       compare check-samples FOLDER    holds the sample records to what would be made
+       compare samples FOLDER          makes the sample records and scripts
+       compare check-samples FOLDER    holds the sample records and scripts to what would be made
        compare racks [--seed NUMBER]   holds the two independent racks to each other
        compare engine EVENTS [--seed NUMBER]   holds them and the Rattle engine to each other
        compare drill                   runs the script on standard input

@@ -7,6 +7,7 @@
 //! engine to this one, event by event.
 
 pub mod acts;
+pub mod directed;
 pub mod drill;
 pub mod driver;
 pub mod event;

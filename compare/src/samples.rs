@@ -1,13 +1,15 @@
-//! The sample records of samples/, each with the line that the judge is to write for it.
+//! The sample records and scripts of samples/: with a record the line that the judge is to write for it, with a script the
+//! text of the drill and the record that is left.
 
+use crate::drills::{self, Drill};
 use crate::paper::record::{bytes_of, Entry, CELLS, CLIENTS, MOST_ENTRIES};
 use std::fs;
 use std::io;
 use std::path::Path;
 
 pub struct Sample {
-    pub file: &'static str,
-    pub what: &'static str,
+    pub file: String,
+    pub what: String,
     /// The line that the judge writes.
     pub right: &'static str,
     pub bytes: Vec<u8>,
@@ -35,8 +37,8 @@ fn done(client: u8) -> Entry {
     Entry::Done { client }
 }
 
-fn sample(file: &'static str, what: &'static str, right: &'static str, bytes: Vec<u8>) -> Sample {
-    Sample { file, what, right, bytes }
+fn sample(file: &str, what: &str, right: &'static str, bytes: Vec<u8>) -> Sample {
+    Sample { file: file.to_string(), what: what.to_string(), right, bytes }
 }
 
 pub fn all() -> Vec<Sample> {
@@ -46,12 +48,14 @@ pub fn all() -> Vec<Sample> {
         refused_for_their_numbers(),
         refused_for_their_entries(),
         at_the_limit(),
+        left_by_drills(),
     ];
     groups.into_iter().flatten().collect()
 }
 
 fn one_after_the_other() -> Vec<Sample> {
     let last_byte_00 = [&SHEET_RECORD[..11], &[0]].concat();
+    let misses_9 = [write_asked(0, 0, 9), done(0), read_asked(1, 0), told(1, 0)];
     let read_too_early = [read_asked(1, 3), told(1, 5), write_asked(0, 3, 5), done(0)];
     vec![
         sample("empty.rec", "no bytes: the empty record", "lawful", vec![]),
@@ -66,6 +70,12 @@ fn one_after_the_other() -> Vec<Sample> {
             "the same with last byte 00: client 1 reads 0 after the write of 5 is done",
             "unlawful cell 2",
             last_byte_00,
+        ),
+        sample(
+            "read-misses-9.rec",
+            "client 0 writes 9 to cell 0, client 1 then reads 0: left by a rack that takes silence for 0, or a copy for an answer",
+            "unlawful cell 0",
+            bytes_of(&misses_9),
         ),
         sample(
             "read-before-asked.rec",
@@ -169,6 +179,14 @@ fn at_the_limit() -> Vec<Sample> {
     ]
 }
 
+fn left_by_drills() -> Vec<Sample> {
+    let left = |drill: &Drill| {
+        let (file, what) = (format!("{}.rec", drill.name), format!("the record that {}.script leaves", drill.name));
+        sample(&file, &what, drill.right, drill.record())
+    };
+    drills::all().iter().map(left).collect()
+}
+
 /// One operation at a time, so the order is plain. The values are distinct and above and below zero.
 fn full_record() -> Vec<Entry> {
     let mut entries = Vec::with_capacity(MOST_ENTRIES);
@@ -182,16 +200,28 @@ fn full_record() -> Vec<Entry> {
     entries
 }
 
-fn readme(samples: &[Sample]) -> String {
+fn readme(samples: &[Sample], drills: &[Drill]) -> String {
     let mut text = String::from(
-        "# Sample records\n\n\
-         Each file is the bytes of one record and nothing else. `verdicts.txt` has the last column for programs to read.\n\
-         `compare samples` makes the files, that list and this page, and `compare check-samples` holds them to what it would\n\
-         make.\n\n\
+        "# Sample records and scripts\n\n\
+         A file NAME.rec is the bytes of one record and nothing else. `verdicts.txt` has the last column for programs to\n\
+         read. `compare samples` makes the files, that list and this page, and `compare check-samples` holds them to what it\n\
+         would make.\n\n\
          | File | Bytes | What it is | What the judge writes |\n|---|---|---|---|\n",
     );
     for Sample { file, what, right, bytes } in samples {
         text += &format!("| {file} | {} | {what} | `{right}` |\n", bytes.len());
+    }
+    text += "\nA file NAME.script is a script for the drill, NAME.drilled is what the drill writes for it, and NAME.rec the record\n\
+             that is left. docs/FOR-TEACHERS.md goes through them.\n\n\
+             | File | Bytes | Events | What it is |\n|---|---|---|---|\n";
+    for drill in drills {
+        text += &format!(
+            "| {}.script | {} | {} | {} |\n",
+            drill.name,
+            drill.script().len(),
+            drill.events.len(),
+            drill.what
+        );
     }
     text
 }
@@ -202,11 +232,15 @@ fn verdicts(samples: &[Sample]) -> String {
 }
 
 /// Every file of the folder: its name and all its bytes.
-fn files() -> Vec<(&'static str, Vec<u8>)> {
-    let samples = all();
-    let (page, verdicts) = (readme(&samples).into_bytes(), verdicts(&samples).into_bytes());
+fn files() -> Vec<(String, Vec<u8>)> {
+    let (samples, drills) = (all(), drills::all());
+    let (page, verdicts) = (readme(&samples, &drills).into_bytes(), verdicts(&samples).into_bytes());
     let mut files: Vec<_> = samples.into_iter().map(|sample| (sample.file, sample.bytes)).collect();
-    files.extend([(README, page), (VERDICTS, verdicts)]);
+    for drill in drills {
+        files.push((format!("{}.script", drill.name), drill.script()));
+        files.push((format!("{}.drilled", drill.name), drill.text().into_bytes()));
+    }
+    files.extend([(README.to_string(), page), (VERDICTS.to_string(), verdicts)]);
     files
 }
 
@@ -219,7 +253,12 @@ pub fn write_to(folder: &Path) -> io::Result<usize> {
     Ok(files.len())
 }
 
-/// What is wrong with the folder, a line each; nothing when every file is there byte for byte and no other record.
+/// Whether a file is a record, a script or the text of a drill, by its name.
+fn is_for_a_program(name: &Path) -> bool {
+    name.extension().is_some_and(|extension| ["rec", "script", "drilled"].iter().any(|known| extension == *known))
+}
+
+/// What is wrong with the folder, a line each; nothing when every file is there byte for byte and no other record or script.
 pub fn faults_of(folder: &Path) -> io::Result<Vec<String>> {
     let files = files();
     let mut faults = Vec::new();
@@ -232,8 +271,7 @@ pub fn faults_of(folder: &Path) -> io::Result<Vec<String>> {
     }
     for found in fs::read_dir(folder)? {
         let name = found?.file_name();
-        let is_record = Path::new(&name).extension().is_some_and(|extension| extension == "rec");
-        if is_record && !files.iter().any(|(file, _)| name == *file) {
+        if is_for_a_program(Path::new(&name)) && !files.iter().any(|(file, _)| name == **file) {
             faults.push(format!("{} is no sample", name.to_string_lossy()));
         }
     }

@@ -1,6 +1,7 @@
 //! Makes scripts for `drill` from a seed: runs of what may happen, with and without a refusal at their end, makers that are
-//! refused, long ones, and every kind of fault.
+//! refused, long ones, and every kind of fault. Those of `directed` are the same for every seed.
 
+use super::directed;
 use super::drill::script_of;
 use super::driver::Driver;
 use super::event::Event;
@@ -31,6 +32,7 @@ pub fn write_to(folder: &Path, seed: u64) -> io::Result<usize> {
 fn all(random: &mut Random) -> Vec<Vec<u8>> {
     let kinds = [run_to_the_end, run_to_a_refusal, refused_maker, cut_short, exchanged, padded, nonsense];
     let mut scripts = vec![Vec::new(), long(random, full_record), long(random, busy_wire)];
+    scripts.extend(directed::all().into_iter().map(|(_, script)| script));
     for kind in kinds {
         scripts.extend((0..OF_EACH_KIND).map(|_| kind(random)));
     }

@@ -1,5 +1,5 @@
 // The judge: reads a record from standard input, and writes its verdict as one line.
-use libc::STDIN_FILENO;
+use input::Ending;
 use libc::STDOUT_FILENO;
 
 // No record has more than 16,384 bytes, so the first 16,385 of any input decide.
@@ -12,15 +12,21 @@ fn say(bytes: &[u8]) {
     io::write_all(STDOUT_FILENO, &line[..n]);
 }
 
+// What is left of an input that is too long is read after the verdict is written: nothing of it can change the verdict.
 fn main() {
     let mut bytes = [0u8; DECIDES];
-    let n = io::read_full(STDIN_FILENO, &mut bytes);
-    if n == DECIDES {
-        input::drop_rest();
-    } else if !input::ended() {
+    let reading = input::fill(&mut bytes);
+    let n = reading.count;
+    let ending = reading.ending;
+    match ending {
         // A part of a record is not judged: it may be lawful where the whole isn't.
-        io::write_all(STDOUT_FILENO, b"input can't be read to its end\n");
-        return;
+        Ending::Failed => {
+            io::write_all(STDOUT_FILENO, b"input can't be read to its end\n");
+        }
+        Ending::Ended => say(&bytes[..n]),
+        Ending::Full => {
+            say(&bytes[..n]);
+            input::drop_rest();
+        }
     }
-    say(&bytes[..n]);
 }

@@ -159,9 +159,13 @@ rackText r =
 abbrev pub refusalText : ℕ → List ℕ
 refusalText k = cond (eqb k 0) noneWord (decimal k)
 
+-- the line of a run's refusal
+abbrev pub refusedLine : ℕ → List ℕ
+refusedLine k = refusedWord ++ (refusalText k ++ lineFeed)
+
 -- the lines of a run
 unfoldable pub ranText : Ran → List ℕ
-ranText q = (field doneStart (q .done) ++ (lineFeed ++ (refusedWord ++ (refusalText (q .refusal) ++ lineFeed)))) ++ rackText (q .rack)
+ranText q = (field doneStart (q .done) ++ (lineFeed ++ refusedLine (q .refusal))) ++ rackText (q .rack)
 
 -- the one line of a script that has a fault
 unfoldable pub faultLine : ℕ → ℕ → List ℕ

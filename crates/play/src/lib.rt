@@ -1,4 +1,4 @@
-// A script played: the rack that it names is made, its events are run on it, and the lines of the run are written.
+// A script played: the rack that it names is made, its events are run on it, and the lines of the run or the bytes of its record are written.
 ghost use mathlib.Core.Path.{_≡_};
 ghost use mathlib.Core.Bool.{true};
 ghost use Prim.Native.Nat.{min};
@@ -6,11 +6,21 @@ ghost use Rattle.text.specs.Text.{Printed};
 ghost use Rattle.script.specs.Script.{eventsFrom, wordsOf};
 ghost use Rattle.rack.specs.Sound.{soundOf};
 ghost use Rattle.rack.specs.Run.{ranOf, runOf};
-ghost use Rattle.play.specs.Play.{playedOf, drillText};
+ghost use Rattle.play.specs.Play.{playedOf, drillText, Records};
 use rack::Rack;
 use rack::Ran;
 use schedule::EVENT_WORDS;
 use script::Words;
+
+// The most bytes of a script that the programs take.
+pub const LONGEST: usize = 2097152;
+
+// What is answered of a script's record: the refusal of its fault and the byte where that begins; or the refusal of its run, 0 for none, and how many
+// bytes were written.
+pub enum Recorded {
+    Fault(u8, usize),
+    Run(u8, usize),
+}
 
 fn ran(done: usize, refusal: u8, rack: Rack) -> Ran
     ensures { λ r. ⌜ r ≡ ranOf done refusal rack ⌝ }
@@ -83,5 +93,20 @@ pub fn drill(s: &[u8], out: &mut [u8]) -> usize
             0,
             play(s, replicas, clients, cells, allowance, first),
         ),
+    }
+}
+
+// Writes the bytes of the record that a script's run leaves, as far as the lent bytes go. Of a script that has a fault nothing is written.
+pub fn record_run(s: &[u8], out: &mut [u8]) -> Recorded
+    ensures { λ r. ⌜ Records (now (s .entry)) (now (out .entry)) r (now (out .exit)) ⌝ }
+{
+    match script::check(s) {
+        Words::Refused(refusal, byte) => Recorded::Fault(refusal, byte),
+        Words::Are(replicas, clients, cells, allowance, first) => {
+            let played = play(s, replicas, clients, cells, allowance, first);
+            let rack = played.rack;
+            let count = show::put_record_bytes(out, 0, rack);
+            Recorded::Run(played.refusal, count)
+        }
     }
 }

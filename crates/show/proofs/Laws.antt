@@ -49,6 +49,10 @@ module _ (d d′ : List ℕ) (e : Entry) (r : Put) (h : length d ≡ 20) (p : Pl
   pub entry-room : r ≡ NoRoom → ⊥
   entry-room q = let few = entry-most e in placed-fits d 0 (entryBytes e) d′ r (omega arith) p q
 
+-- the bytes of lines' entries
+abbrev entryBytesOf : List Line → List ℕ
+entryBytesOf ls = bytesOf (map (λ (l : Line). l .entry) ls)
+
 abbrev entriesText : List Line → List ℕ
 entriesText ls = hexText (bytesOf (map (λ (l : Line). l .entry) ls))
 
@@ -65,6 +69,24 @@ one-entry : (x : Line) → hexText (entryBytes (x .entry)) ≡ entriesText (x �
 unfolding allOf
 one-entry x = ap hexText (sym (append-nil (entryBytes (x .entry))))
 
+bytes-append : (xs : List Line) (y : Line) → entryBytesOf xs ++ entryBytes (y .entry) ≡ entryBytesOf (xs ++ (y ∷ []))
+unfolding allOf
+bytes-append [] y = sym (append-nil (entryBytes (y .entry)))
+bytes-append (x ∷ xs) y =
+    append-assoc (entryBytes (x .entry)) (entryBytesOf xs) (entryBytes (y .entry)) ∙ ap (λ (t : List ℕ). entryBytes (x .entry) ++ t) (bytes-append xs y)
+
+-- the first n are all that stand there
+same-front : (lines : List Line) (i count : ℕ) → length lines ≡ 2048 → i ≤ min count 2048 → min count 2048 ≤ i → take i lines ≡ take count lines
+same-front lines i count e h k = go (ltb count 2048) refl
+  where
+    go : (t : Bool) → ltb count 2048 ≡ t → take i lines ≡ take count lines
+    go true q =
+        let few : count < 2048 = ltb-true count 2048 q in
+        let same : i ≡ count = omega arith in ap (λ (n : ℕ). take n lines) same
+    go false q =
+        let many : 2048 ≤ count = ltb-false count 2048 q in
+        take-all i lines (omega arith) ∙ sym (take-all count lines (omega arith))
+
 module _ {l : List ℕ} {at : ℕ} (lines : List Line) where
   pub no-entry : Printed l at (hexText (bytesOf (map (λ (x : Line). x .entry) (take 0 lines)))) at l
   unfolding allOf hexText
@@ -80,16 +102,28 @@ module _ {l : List ℕ} {at : ℕ} (lines : List Line) where
       ∙ ap entriesText (sym (take-suc lines i d h) ∙ ap (λ (k : ℕ). take k lines) (sym (add-one i))))
       (join v (same-text (one-entry (getD lines i d)) w))
 
-  -- the first n are all that stand there
   pub all-entries : (i count : ℕ) {a : ℕ} {l′ : List ℕ} → length lines ≡ entryLimit → i ≤ min count entryLimit → min count entryLimit ≤ i
       → Printed l at (hexText (bytesOf (map (λ (x : Line). x .entry) (take i lines)))) a l′
       → Printed l at (hexText (bytesOf (map (λ (x : Line). x .entry) (take count lines)))) a l′
-  all-entries i count e h k v = same-text (ap entriesText (same-front (ltb count entryLimit) refl)) v
-    where
-      same-front : (t : Bool) → ltb count entryLimit ≡ t → take i lines ≡ take count lines
-      same-front true q =
-          let few : count < entryLimit = ltb-true count entryLimit q in
-          let same : i ≡ count = omega arith in ap (λ (n : ℕ). take n lines) same
-      same-front false q =
-          let many : entryLimit ≤ count = ltb-false count entryLimit q in
-          take-all i lines (omega arith) ∙ sym (take-all count lines (omega arith))
+  all-entries i count e h k v = same-text (ap entriesText (same-front lines i count e h k)) v
+
+  -- ---- the record's entries as bytes
+
+  pub no-bytes : Printed l at (bytesOf (map (λ (x : Line). x .entry) (take 0 lines))) at l
+  unfolding allOf
+  no-bytes = nothing
+
+  pub next-bytes : (i : ℕ) (d : Line) {a r : ℕ} {l′ l″ : List ℕ} → i < length lines
+      → Printed l at (bytesOf (map (λ (x : Line). x .entry) (take i lines))) a l′
+      → Printed l′ a (entryBytes (getD lines i d .entry)) r l″
+      → Printed l at (bytesOf (map (λ (x : Line). x .entry) (take (i + 1) lines))) r l″
+  next-bytes i d h v w =
+      same-text
+      (bytes-append (take i lines) (getD lines i d)
+      ∙ ap entryBytesOf (sym (take-suc lines i d h) ∙ ap (λ (k : ℕ). take k lines) (sym (add-one i))))
+      (join v w)
+
+  pub all-bytes : (i count : ℕ) {a : ℕ} {l′ : List ℕ} → length lines ≡ entryLimit → i ≤ min count entryLimit → min count entryLimit ≤ i
+      → Printed l at (bytesOf (map (λ (x : Line). x .entry) (take i lines))) a l′
+      → Printed l at (bytesOf (map (λ (x : Line). x .entry) (take count lines))) a l′
+  all-bytes i count e h k v = same-text (ap entryBytesOf (same-front lines i count e h k)) v

@@ -3,17 +3,17 @@ ghost use mathlib.Core.Path.{_≡_};
 ghost use mathlib.Core.List.{_++_, map};
 ghost use Prim.Native.Nat.{min};
 ghost use lib.ListN.{getD, take};
-ghost use Rattle.text.specs.Text.{field, refusedWord, lineFeed, hexText, Printed};
+ghost use Rattle.text.specs.Text.{field, lineFeed, hexText, Printed};
 ghost use Rattle.record.specs.Entry.{entryBytes};
 ghost use Rattle.record.specs.Record.{entryLimit, bytesOf};
 ghost use Rattle.quorum.specs.Sets.{hasReplica};
 ghost use Rattle.rack.specs.declared.Line.{Line};
 ghost use Rattle.stamps.specs.Stamp.{freshPair};
-ghost use Rattle.rack.specs.Places.{slotLimit, idle, pairPlace, heldIn};
+ghost use Rattle.rack.specs.Places.{slotLimit, idle, pairPlace, heldIn, recordOf};
 ghost use Rattle.lines.specs.Words.{doneStart, space, pairWord};
 ghost use Rattle.lines.specs.Lines.{eachBelow, pairText, kindText, bodyPair, namesText, messageText, slotLine, goalText, memberText, membersText, openText, heldText, holdingText};
 ghost use Rattle.lines.specs.Lines.{phaseWord, phaseHeld};
-ghost use Rattle.lines.specs.Lines.{workText, stoppedText, clientLine, powerText, replicaLine, sizesLine, recordLine, rackText, refusalText, ranText, faultLine};
+ghost use Rattle.lines.specs.Lines.{workText, stoppedText, clientLine, powerText, replicaLine, sizesLine, recordLine, rackText, refusalText, refusedLine, ranText, faultLine};
 use method::Body;
 use method::Goal;
 use method::Holding;
@@ -403,6 +403,40 @@ fn put_entries(out: &mut [u8], at: usize, lines: [Line; Rack::ENTRIES], count: u
     next
 }
 
+// An entry's bytes as they are.
+fn put_entry_bytes(out: &mut [u8], at: usize, e: Entry) -> usize
+    ensures { λ r. ⌜ Printed (now (out .entry)) at (entryBytes e) r (now (out .exit)) ⌝ }
+{
+    let mut bytes = [0u8; ENTRY_BYTES];
+    match write_entry(&mut bytes, 0, e) {
+        Put::Next(next) => put_words(out, at, &bytes[..next]),
+        Put::NoRoom => at,
+    }
+}
+
+fn put_entries_bytes(out: &mut [u8], at: usize, lines: [Line; Rack::ENTRIES], count: usize) -> usize
+    ensures { λ r. ⌜ Printed (now (out .entry)) at (bytesOf (map (λ (l : Line). l .entry) (take count lines))) r (now (out .exit)) ⌝ }
+{
+    let n = entries_in(count);
+    let mut next = at;
+    let mut i: usize = 0;
+    while i < n {
+        let line = lines[i];
+        let entry = line.entry;
+        next = put_entry_bytes(out, next, entry);
+        i += 1;
+    }
+    next
+}
+
+// The bytes of a rack's record as they are, from a place on as far as the lent bytes go; the place after them.
+pub fn put_record_bytes(out: &mut [u8], at: usize, rack: Rack) -> usize
+    ensures { λ r. ⌜ Printed (now (out .entry)) at (bytesOf (recordOf rack)) r (now (out .exit)) ⌝ }
+{
+    let lines = rack.lines;
+    put_entries_bytes(out, at, lines, rack.count)
+}
+
 fn put_record(out: &mut [u8], at: usize, rack: Rack) -> usize
     ensures { λ r. ⌜ Printed (now (out .entry)) at (recordLine rack) r (now (out .exit)) ⌝ }
 {
@@ -445,15 +479,22 @@ fn put_refusal(out: &mut [u8], at: usize, refusal: u8) -> usize
     put_decimal(out, at, refusal as usize)
 }
 
+// The line of a run's refusal.
+pub fn put_refused(out: &mut [u8], at: usize, refusal: u8) -> usize
+    ensures { λ r. ⌜ Printed (now (out .entry)) at (refusedLine refusal) r (now (out .exit)) ⌝ }
+{
+    let a = put_words(out, at, b"refused ");
+    let b = put_refusal(out, a, refusal);
+    put_words(out, b, b"\n")
+}
+
 // How many events were done, and the refusal.
 fn put_end(out: &mut [u8], at: usize, done: usize, refusal: u8) -> usize
-    ensures { λ r. ⌜ Printed (now (out .entry)) at (field doneStart done ++ (lineFeed ++ (refusedWord ++ (refusalText refusal ++ lineFeed)))) r (now (out .exit)) ⌝ }
+    ensures { λ r. ⌜ Printed (now (out .entry)) at (field doneStart done ++ (lineFeed ++ refusedLine refusal)) r (now (out .exit)) ⌝ }
 {
     let a = put_field(out, at, b"done ", done);
     let b = put_words(out, a, b"\n");
-    let c = put_words(out, b, b"refused ");
-    let d = put_refusal(out, c, refusal);
-    put_words(out, d, b"\n")
+    put_refused(out, b, refusal)
 }
 
 // The lines of a run, from a place on as far as the lent bytes go; the place after them.

@@ -1,4 +1,4 @@
-//! Pages that tell why things hold: each file that they name is there, and declares the name that stands right before it.
+//! Pages that name files of the sources: each file that they name is there, and declares the name that stands right before it.
 
 use crate::antt::Definitions;
 use crate::project::{Crate, Project};
@@ -7,7 +7,7 @@ use std::fs;
 use std::io;
 use std::path::Path;
 
-pub const PAGES: [&str; 2] = ["docs/WHY-IT-HOLDS.md", "docs/DECISIONS.md"];
+pub const PAGES: [&str; 4] = ["docs/WHY-IT-HOLDS.md", "docs/DECISIONS.md", "docs/FORMAT.md", "docs/PROVING.md"];
 
 /// The faults of the pages.
 pub fn faults(project: &Project, root: &Path) -> io::Result<Vec<String>> {

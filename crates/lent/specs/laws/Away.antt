@@ -13,8 +13,9 @@ use Rattle.rows.specs.laws.RowLaws.{row-length}
 use Rattle.stamps.specs.declared.Pair.{Pair}
 use Rattle.stamps.specs.Stamp.{freshPair}
 use Rattle.rack.specs.declared.Rack.{Rack}
+use Rattle.record.specs.Entry.{cellLimit}
 use Rattle.rack.specs.Places.{slotLimit, partyAt, heldAt}
-use Rattle.layout.specs.Layout.{partyPlace, pairPlace, slotPlace, entryPlace, word}
+use Rattle.layout.specs.Layout.{headSize, partySize, pairSize, slotSize, entrySize, partyPlace, pairPlace, slotPlace, entryPlace, word}
 use Rattle.layout.specs.Writing.{pairWords, partyWords, slotWords, putFirsts, headOf, partiesPut, pairWritten, pairsPut, wirePut, entryIn, recordPut, writtenOf}
 use Rattle.layout.specs.laws.PlaceLaws.{sets-below}
 use Rattle.layout.specs.laws.Trip.{party-long, pair-long, slot-long}

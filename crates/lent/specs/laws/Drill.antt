@@ -1,10 +1,13 @@
--- The record that the program `drill` writes is lawful and reads back, a refused maker's too.
-use Prim.Native.Nat.{ℕ, _-_}
-use mathlib.Core.Path.{_≡_, ap, _∙_}
+-- The record that the programs `drill` and `recorder` write is lawful and reads back, a refused maker's too.
+use Prim.Native.Nat.{ℕ, _+_, _-_, _≤_, min}
+use mathlib.Core.Path.{_≡_, ap, ap₂, _∙_}
 use mathlib.Core.Bool.{Bool, true, false, cond}
 use mathlib.Core.List.{List, _++_, append-assoc}
+use native.Mathlib.Omega.{arith}
 use lib.Dec.{eqb}
-use lib.ListN.{length}
+use lib.ListN.{length, take, drop}
+use lib.Seq.{sets, sets-eq, take-append-seam}
+use Rattle.record.specs.Record.{bytesOf}
 use Rattle.number.specs.Below.{Bytes}
 use Rattle.text.specs.Text.{field, refusedWord, lineFeed}
 use Rattle.rack.specs.declared.Rack.{Rack}
@@ -19,12 +22,15 @@ use Rattle.promise.specs.laws.Promise.{promise-reached}
 use Rattle.back.specs.Standing.{Agrees}
 use Rattle.back.specs.laws.Agrees.{run-agrees, made-agrees, agrees-legal}
 use Rattle.back.specs.laws.Back.{legal-back}
+use Rattle.script.specs.declared.Words.{Words}
 use Rattle.script.specs.declared.Words.the-variants.{Are}
 use Rattle.script.specs.Script.{eventsFrom, wordsOf, scriptOf}
 use Rattle.lines.specs.Words.{doneStart}
 use Rattle.lines.specs.Lines.{eachBelow, sizesLine, replicaLine, clientLine, slotLine, recordLine, refusalText, ranText}
-use Rattle.play.specs.Play.{playedOf, textAfter, drillText}
-use Rattle.lent.specs.Drilled.{Drilled}
+use Rattle.play.specs.declared.Recorded.{Recorded}
+use Rattle.play.specs.declared.Recorded.the-variants.{Run}
+use Rattle.play.specs.Play.{playedOf, textAfter, drillText, bytesAfter, recordBytesOf, answerAfter, recordedOf, Records}
+use Rattle.lent.specs.Drilled.{Drilled, InFull}
 use Rattle.lent.specs.laws.Scripts.{script-words}
 
 -- how many events were done, and the refusal
@@ -108,3 +114,30 @@ pub drill-refused : (s : List ℕ) (replicas clients cells allowance first : ℕ
     → playedOf s replicas clients cells allowance first ≡ ranOf 0 1 (freshRack 1 1 1)
 unfolding playedOf madeOf
 drill-refused s replicas clients cells allowance first h = rw h
+
+-- bytes laid into lent bytes that have room for them stand in front
+front-of : (before bytes : List ℕ) → length bytes ≤ length before → take (length bytes) (sets before 0 bytes) ≡ bytes
+front-of before bytes h = ap (take (length bytes)) (sets-eq bytes before 0 (omega arith)) ∙ take-append-seam bytes (drop (0 + length bytes) before)
+
+-- What `recorder` writes for a script without a fault: in 16,384 bytes the record of its run stands whole, is lawful and reads back.
+pub recorded-lawful : (s before : List ℕ) (replicas clients cells allowance first : ℕ) (r : Recorded) (after : List ℕ) → Bytes s → 16384 ≤ length before
+    → scriptOf s ≡ Are replicas clients cells allowance first → Records s before r after → InFull (playedOf s replicas clients cells allowance first) r after
+unfolding recordBytesOf recordedOf
+recorded-lawful s before replicas clients cells allowance first r after bytes room h w =
+    let q : Ran = playedOf s replicas clients cells allowance first in
+    let back = legal-back (recordOf (q .rack)) (agrees-legal (q .rack) (played-agrees s bytes replicas clients cells allowance first)) in
+    let all : recordBytesOf s ≡ bytesOf (recordOf (q .rack)) = ap (bytesAfter s) h in
+    let few = back .few in
+    let count : min (length (bytesOf (recordOf (q .rack)))) (length before) ≡ length (bytesOf (recordOf (q .rack))) = omega (arith, few) in
+    record {
+      answer =
+          w .answer
+          ∙ ap₂ (λ (l : List ℕ) (x : Words). answerAfter s (min (length l) (length before)) x) all h
+          ∙ ap (λ (n : ℕ). Run (q .refusal) n) count;
+      front =
+          ap (take (length (bytesOf (recordOf (q .rack))))) (w .lent ∙ ap (λ (l : List ℕ). sets before 0 l) all)
+          ∙ front-of before (bytesOf (recordOf (q .rack))) (omega (arith, few));
+      reads = back .holds;
+      lawful = promise-reached (q .rack) (played-reached s bytes replicas clients cells allowance first);
+      back = back;
+    }

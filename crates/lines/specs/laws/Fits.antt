@@ -36,7 +36,7 @@ use Rattle.rack.specs.laws.SoundLaws.{sound-of}
 use Rattle.lines.specs.Words.{doneStart, noneWord, replicaStart, clientStart, slotStart, recordStart, space, fromNone}
 use Rattle.lines.specs.Lines.{eachBelow, pairText, kindText, bodyPair, namesText, messageText, slotLine, goalText, memberText, membersText, openText, heldText, holdingText}
 use Rattle.lines.specs.Lines.{phaseWord, phaseHeld, workText}
-use Rattle.lines.specs.Lines.{stoppedText, clientLine, powerText, pairsText, replicaLine, sizesLine, recordLine, rackText, refusalText, ranText, faultLine}
+use Rattle.lines.specs.Lines.{stoppedText, clientLine, powerText, pairsText, replicaLine, sizesLine, recordLine, rackText, refusalText, refusedLine, ranText, faultLine}
 
 -- ---- pairs
 
@@ -198,3 +198,11 @@ ran-fits q h =
 pub fault-fits : (refusal byte : ℕ) → length (faultLine refusal byte) ≤ 262144
 unfolding faultLine
 fault-fits refusal byte = simp length-append (omega (arith, digits-few 20 refusal .few, digits-few 20 byte .few))
+
+-- both lines of a refusal fit 64 bytes
+pub fault-short : (refusal byte : ℕ) → length (faultLine refusal byte) ≤ 64
+unfolding faultLine
+fault-short refusal byte = simp length-append (omega (arith, digits-few 20 refusal .few, digits-few 20 byte .few))
+
+pub refused-short : (refusal : ℕ) → length (refusedLine refusal) ≤ 64
+refused-short refusal = simp length-append (omega (arith, refusal-few refusal .few))

@@ -11,8 +11,11 @@ use Rattle.rack.specs.declared.Ran.{Ran}
 use Rattle.rack.specs.Sound.{settingsFit}
 use Rattle.rack.specs.Run.{madeOf}
 use Rattle.lines.specs.Lines.{faultLine}
-use Rattle.play.specs.Play.{playedOf, drillText}
-use Rattle.play.specs.Same.{SameRan}
+use Rattle.play.specs.declared.Recorded.{Recorded}
+use Rattle.play.specs.declared.Recorded.the-variants.{Fault, Run}
+use Rattle.play.specs.Play.{playedOf, drillText, recordBytesOf, recordedOf, Records}
+use Rattle.play.specs.Answers.{refusalIn, faultIn, countIn}
+use Rattle.play.specs.Same.{SameRan, SameRecorded}
 
 -- ---- play
 
@@ -57,3 +60,30 @@ pub not-unwritten : (r : ℕ) → Printed (7 ∷ []) 0 (drillText []) r (7 ∷ [
 unfolding drillText scriptOf headOf andThen numberAt numberOf taken lastOf faultLine digitsOf
 not-unwritten r p = let e : _≡_ {A = List ℕ} (7 ∷ []) (114 ∷ []) = p .list in
     let z : _≡_ {A = ℕ} 7 114 = cc in omega arith
+
+-- ---- record_run
+
+pub one-recorded : (s before : List ℕ) (r r′ : Recorded) (after other : List ℕ) → Records s before r after → Records s before r′ other → SameRecorded r r′ after other
+one-recorded s before r r′ after other a b =
+    let e : r ≡ r′ = a .answer ∙ sym (b .answer) in
+    record { refusal = ap refusalIn e; fault = ap faultIn e; count = ap countIn e; same = e; lent = a .lent ∙ sym (b .lent) }
+
+-- no bytes are no script: refused 21 at byte 0, and nothing is written
+pub nothing-recorded : recordedOf [] 1 ≡ Fault 21 0
+unfolding recordedOf scriptOf headOf andThen numberAt numberOf taken lastOf
+nothing-recorded = refl
+
+-- that is not passed over as a run, and the lent bytes are not cleared
+pub not-run-of-nothing : (r : Recorded) (after : List ℕ) → Records [] (7 ∷ []) r after → refusalIn r ≡ 0 → ⊥
+unfolding refusalIn
+not-run-of-nothing r after p h = let e = ap refusalIn (p .answer ∙ nothing-recorded) in omega (arith, e)
+
+pub not-cleared : (r : Recorded) → Records [] (7 ∷ []) r (0 ∷ []) → ⊥
+unfolding recordBytesOf scriptOf headOf andThen numberAt numberOf taken lastOf
+not-cleared r p = let e : _≡_ {A = List ℕ} (0 ∷ []) (7 ∷ []) = p .lent in
+    let z : _≡_ {A = ℕ} 0 7 = cc in omega arith
+
+-- what they say: a fault is 21 at byte 0 with no bytes written
+pub says-fault : (refusalIn (recordedOf [] 1) ≡ 21) × ((faultIn (recordedOf [] 1) ≡ 0 ∷ []) × (countIn (recordedOf [] 1) ≡ 0))
+unfolding refusalIn faultIn countIn
+says-fault = (ap refusalIn nothing-recorded, (ap faultIn nothing-recorded, ap countIn nothing-recorded))

@@ -16,30 +16,15 @@ slice-aggregate-put-words c = search needs
 put-words-requires : tie.Need-put-words-requires
 put-words-requires c κs = search needs
 
-slice-aggregate-put-words-2 : tie.Need-slice-aggregate-put-words-2
-slice-aggregate-put-words-2 c = search needs
-
-put-words-requires-2 : tie.Need-put-words-requires-2
-put-words-requires-2 c κs = search needs
-
-put-refusal-requires : tie.Need-put-refusal-requires
-put-refusal-requires c κs = search needs
-
-slice-aggregate-put-words-3 : tie.Need-slice-aggregate-put-words-3
-slice-aggregate-put-words-3 c = search needs
-
-put-words-requires-3 : tie.Need-put-words-requires-3
-put-words-requires-3 c κs = search needs
+put-refused-requires : tie.Need-put-refused-requires
+put-refused-requires c κs = search needs
 
 same-length : tie.Need-same-length
 same-length c = search needs
 
 returns : tie.Need-returns
-returns c = join (c .before .before .before .before .before .before .before .before .before .before .before .before .before .before .before .before .before .before .before .before
-    .before .put-field .ensures) (join
-    (c .before .before .before .before .before .before .before .before .before .before .before .before .before .before .before .before .put-words .ensures)
-    (join (c .before .before .before .before .before .before .before .before .before .before .before .put-words2 .ensures)
-    (join (c .before .before .before .before .before .before .before .put-refusal .ensures) (c .before .before .put-words3 .ensures))))
+returns c = join (c .before .before .before .before .before .before .before .before .before .before .before .put-field .ensures)
+    (join (c .before .before .before .before .before .before .put-words .ensures) (c .before .before .put-refused .ensures))
 
 pub put-end-spec : {M : Type 1} → statement M
 put-end-spec =
@@ -49,10 +34,6 @@ put-end-spec =
     put-field-requires
     slice-aggregate-put-words
     put-words-requires
-    slice-aggregate-put-words-2
-    put-words-requires-2
-    put-refusal-requires
-    slice-aggregate-put-words-3
-    put-words-requires-3
+    put-refused-requires
     same-length
     returns)
