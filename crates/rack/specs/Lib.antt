@@ -7,6 +7,7 @@ pub mod Run
 pub mod Counts
 pub mod Answers
 pub mod Examples
+pub mod RefusalExamples
 pub mod Same
 -- What is proved of them.
 pub mod laws

@@ -4,6 +4,7 @@ pub mod Tests
 pub mod SoundLaws
 pub mod PlanLaws
 pub mod Table
+pub mod RefusalExamples
 pub mod Decided
 pub mod Owed
 pub mod Fresh

@@ -4,6 +4,7 @@ use Prim.Native.Nat.{ℕ, zero, suc, _+_, _≤_, _<_}
 use mathlib.Core.Path.{_≡_, refl, ap, sym, _∙_, subst}
 use mathlib.Core.Logic.{_≢_, _↔_}
 use mathlib.Core.Bool.{Bool, true, false, cond, not, _&&_}
+use mathlib.Core.List.{List, _∷_}
 use native.Mathlib.Omega.{arith}
 use lib.Dec.{ltb, eqb}
 use borrow.Author.Tests.{ne-eqb, eqb-true, eqb-false, ltb-true, ltb-false, not-true}
@@ -26,10 +27,12 @@ use Rattle.method.specs.laws.Tests.{never, and-left, either}
 use Rattle.method.specs.laws.MethodLaws.{method}
 use Rattle.rack.specs.declared.Settings.{Settings}
 use Rattle.rack.specs.declared.Rack.{Rack}
+use Rattle.rack.specs.declared.Ran.{Ran}
 use Rattle.rack.specs.Places.{roomOf}
 use Rattle.rack.specs.Sound.{owed, soundOf}
 use Rattle.rack.specs.Looking.{inRack, lookedHeld, sight}
 use Rattle.rack.specs.Refusals.{planFor, recordFull, tooMany, wireFull, applies, leastFrom, refusalOf, decided, noted, checked}
+use Rattle.rack.specs.Run.{eventOf, appliedOf, ranOf, turn, runFrom}
 
 -- ---- the least number that passes
 
@@ -169,6 +172,23 @@ decided-unsound r e h = rw h
 pub decided-refuses : (r : Rack) (e : Event) (k : ℕ) → decided r e ≡ No k → (2 ≤ k) × (k ≤ 13)
 unfolding refusalOf
 decided-refuses r e k d = let q = decided-no r e k d in let l = least-of 12 2 (λ j. applies j r e) k (q .0) (q .1) in (l .from, omega (arith, l .below))
+
+-- a refusal leaves rack, wire and record as they were, and stops the schedule
+pub refused-leaves : (done : ℕ) (r : Rack) (e : Event) (k : ℕ) (next : Rack → Ran) → decided r e ≡ No k → turn done r e (decided r e) next ≡ ranOf done k r
+unfolding turn
+refused-leaves done r e k next d = rw d
+
+-- the same of a schedule: what the table says of its next event is its refusal, and the rack is the one before that event
+pub refused-stops : (done : ℕ) (r : Rack) (left x a b v k : ℕ) (ws : List ℕ) → refusalOf r (eventOf x a b v) ≡ k → k ≢ 0
+    → runFrom done r (suc left) (x ∷ a ∷ b ∷ v ∷ ws) ≡ ranOf done k r
+unfolding runFrom decided
+refused-stops done r left x a b v k ws q d = refused-leaves done r (eventOf x a b v) k _ (rw (q, ne-eqb k 0 d))
+
+-- and an event of which the table says nothing is done as planned
+pub done-goes-on : (done : ℕ) (r : Rack) (left x a b v : ℕ) (ws : List ℕ) → refusalOf r (eventOf x a b v) ≡ 0
+    → runFrom done r (suc left) (x ∷ a ∷ b ∷ v ∷ ws) ≡ runFrom (done + 1) (appliedOf r (eventOf x a b v) (planFor r (eventOf x a b v))) left ws
+unfolding runFrom turn decided
+done-goes-on done r left x a b v ws q = rw q
 
 -- ---- the order in which the code tests
 
