@@ -1,6 +1,6 @@
 -- The words that a call leaves are read as the rack that it left.
 use Prim.Native.Nat.{ℕ, zero, suc}
-use mathlib.Core.Path.{_≡_, refl, ap, sym}
+use mathlib.Core.Path.{_≡_, refl, ap, sym, _∙_}
 use mathlib.Core.Bool.{Bool, true, false, cond}
 use mathlib.Core.List.{List}
 use lib.Dec.{eqb}
@@ -12,7 +12,7 @@ use Rattle.rack.specs.Sound.{settingsFit, soundOf}
 use Rattle.rack.specs.laws.SoundLaws.{sized}
 use Rattle.rack.specs.laws.Fresh.{fresh-sound}
 use Rattle.rack.specs.Run.{freshRack, madeOf, runOf}
-use Rattle.runs.specs.laws.Steps.{run-steps, from-unsound}
+use Rattle.runs.specs.laws.Steps.{run-steps, none-allowed, from-unsound}
 use Rattle.runs.specs.laws.Parts.{run-stays}
 use Rattle.layout.specs.Layout.{wordCount, word}
 use Rattle.layout.specs.Reading.{rackOf}
@@ -51,8 +51,7 @@ made-reads-again replicas clients cells ws h =
 
 -- no event was done: the rack is the one that was there
 pub none-done : (r : Rack) (n : ℕ) (es : List ℕ) → runOf r n es .done ≡ 0 → runOf r n es .rack ≡ r
-unfolding runOf
-none-done r n es h = sym (ap (λ (q : Ran). q .rack) (rw h at (run-steps r n es .same)))
+none-done r n es h = ap (λ (q : Ran). q .rack) (sym (rw h at (run-steps r n es .same)) ∙ none-allowed r 0 es refl)
 
 -- an event is done on a sound rack only
 pub some-done : (r : Rack) (n : ℕ) (es : List ℕ) → (runOf r n es .done ≡ 0 → ⊥) → soundOf r ≡ true

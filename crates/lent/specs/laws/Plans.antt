@@ -108,6 +108,6 @@ module _ (z : Settings) (n : Sized z) (s : Sight) (on : s .power < powerLimit) (
   plan-stays held hh ho (Off replica) i p x =
       subst PlanStays (sym (x .plan)) (powered-stays (withoutReplica (s .power) (replica .0)) (without-below replicaLimit (s .power) (replica .0) on))
   plan-stays held hh ho (On replica) i p x =
-      let r = ltb-true _ _ i in
+      let r : replica .0 < z .replicas = ltb-true (replica .0) (z .replicas) i in
       subst PlanStays (sym (x .plan)) (powered-stays (withReplica (s .power) (replica .0)) (with-below replicaLimit (s .power) (replica .0) on (omega (arith, n .replicas, r))))
   plan-stays held hh ho Unknown i p x = absurd x

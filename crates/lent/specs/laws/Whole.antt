@@ -19,7 +19,7 @@ use Rattle.rack.specs.Places.{slotLimit, pairLimit, empty, idle, blank, partyAt
 use Rattle.rack.specs.Sound.{soundOf}
 use Rattle.rack.specs.laws.SoundLaws.{Sound, sound-of}
 use Rattle.layout.specs.Layout.{partySize, workSize, pairSize, wordCount, partyPlace, pairPlace, slotPlace, entryPlace, word, firsts}
-use Rattle.layout.specs.Reading.{pairIn, workIn, partyIn, slotIn, lineIn, linesIn, entryCount, rackOf}
+use Rattle.layout.specs.Reading.{pairIn, operationIn, workIn, partyIn, slotIn, lineIn, linesIn, entryCount, rackOf}
 use Rattle.layout.specs.Writing.{writtenOf}
 use Rattle.layout.specs.laws.Firsts.{firsts-long, firsts-at}
 use Rattle.layout.specs.laws.Again.{Sayable, Again, head-stands, written-again}
@@ -39,7 +39,7 @@ unfolding pairIn
 pair-same ws vs at h = rw (h at (omega arith) (omega arith), one-same ws vs at pairSize 1 h (omega arith), one-same ws vs at pairSize 2 h (omega arith))
 
 work-same : (ws vs : List ℕ) (at : ℕ) → SameWords ws vs at workSize → workIn ws at ≡ workIn vs at
-unfolding workIn
+unfolding workIn operationIn
 work-same ws vs at h =
     let w : (o : ℕ) → o < workSize → word ws (at + o) ≡ word vs (at + o) = λ o k. one-same ws vs at workSize o h k in
     let p : pairIn ws (at + 5) ≡ pairIn vs (at + 5) = pair-same ws vs (at + 5) (λ j a b. h j (omega arith) (omega arith)) in
