@@ -59,7 +59,9 @@ fills-all {A} f n xs l i g h k =
 pub firsts-zero : (n : ℕ) → firsts {A = ℕ} n (λ i. 0) ≡ replicate n 0
 unfolding firsts
 firsts-zero zero = refl
-firsts-zero (suc n) = let e : suc n ≡ n + 1 = omega arith in ap (λ (r : List ℕ). r ++ (0 ∷ [])) (firsts-zero n) ∙ replicate-append-replicate n 1 0 ∙ ap (λ (k : ℕ). replicate k 0) (sym e)
+firsts-zero (suc n) =
+    let e : suc n ≡ n + 1 = omega arith in
+    ap (λ (r : List ℕ). r ++ (0 ∷ [])) (firsts-zero n) ∙ replicate-append-replicate n 1 0 ∙ ap (λ (k : ℕ). replicate k 0) (sym e)
 
 -- the operation numbers of what is known
 pub party-op : (stopped op phase goal : ℕ) → partyKnown stopped op phase goal ≡ true → op < opLimit
@@ -85,13 +87,15 @@ pub count-more : (ws : List ℕ) → entryLimit < word ws 4 → entryLimit + 1 �
 unfolding countIn
 count-more ws h = rw (lt-ltb entryLimit (word ws 4) h)
 
-pub count-unknown : (ws : List ℕ) (n : ℕ) (t : Bool) → word ws 4 ≤ entryLimit → n ≡ entryCount ws → t ≡ allBelow n (λ i. lineKnown ws (entryPlace i)) → t ≡ false → entryLimit + 1 ≡ countIn ws
+pub count-unknown : (ws : List ℕ) (n : ℕ) (t : Bool) → word ws 4 ≤ entryLimit → n ≡ entryCount ws → t ≡ allBelow n (λ i. lineKnown ws (entryPlace i)) → t ≡ false
+    → entryLimit + 1 ≡ countIn ws
 unfolding countIn
 count-unknown ws n t h e p q =
     let a : allBelow (entryCount ws) (λ i. lineKnown ws (entryPlace i)) ≡ false = ap (λ (k : ℕ). allBelow k (λ i. lineKnown ws (entryPlace i))) (sym e) ∙ sym p ∙ q in
     rw (le-ltb entryLimit (word ws 4) h, a)
 
-pub count-known : (ws : List ℕ) (n : ℕ) (t : Bool) → word ws 4 ≤ entryLimit → n ≡ entryCount ws → t ≡ allBelow n (λ i. lineKnown ws (entryPlace i)) → t ≡ true → word ws 4 ≡ countIn ws
+pub count-known : (ws : List ℕ) (n : ℕ) (t : Bool) → word ws 4 ≤ entryLimit → n ≡ entryCount ws → t ≡ allBelow n (λ i. lineKnown ws (entryPlace i)) → t ≡ true
+    → word ws 4 ≡ countIn ws
 unfolding countIn
 count-known ws n t h e p q =
     let a : allBelow (entryCount ws) (λ i. lineKnown ws (entryPlace i)) ≡ true = ap (λ (k : ℕ). allBelow k (λ i. lineKnown ws (entryPlace i))) (sym e) ∙ sym p ∙ q in

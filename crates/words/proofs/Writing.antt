@@ -12,8 +12,8 @@ use Rattle.rack.specs.declared.Rack.{Rack}
 use Rattle.method.specs.declared.Operation.{Operation}
 use Rattle.layout.specs.laws.PlaceLaws.{first-long}
 use Rattle.layout.specs.laws.Trip.{open-long}
-use Rattle.layout.specs.Writing.{openWords, phaseWord, heldWords, operationWords, workWords, flag, partyWords, bodyKind, bodyWords, slotWords, putFirsts, headOf, partiesPut, pairsPut, wirePut}
-use Rattle.layout.specs.Writing.{recordPut, writtenOf}
+use Rattle.layout.specs.Writing.{openWords, phaseWord, heldWords, operationWords, workWords, flag, partyWords, bodyKind, bodyWords, slotWords}
+use Rattle.layout.specs.Writing.{putFirsts, headOf, partiesPut, pairsPut, wirePut, recordPut, writtenOf}
 
 -- some and then some more
 pub sets-more : (d : List ℕ) (at : ℕ) (xs ys : List ℕ) → sets (sets d at xs) (at + length xs) ys ≡ sets d at (xs ++ ys)

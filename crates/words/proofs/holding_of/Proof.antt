@@ -1,7 +1,6 @@
 -- `words::holding_of` meets its contract.
 use borrow.Author.Tests.{eq-eqb, ne-eqb}
 use Rattle.layout.specs.Reading.{holdingOf}
-use borrow.Author.Needs.{needs}
 use Rattle.words.proofs.holding_of.Statement.{statement}
 use Rattle.words.proofs.holding_of.Tie as tie
 

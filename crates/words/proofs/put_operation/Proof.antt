@@ -23,7 +23,8 @@ returns : tie.Need-returns
 returns c = operation-written (c .before .before .before .before .before .before .before .before .before .before .before .args .words .now) _ _
     (c .before .before .before .before .before .before .before .before .before .before .before .args .at) _
     (c .before .before .before .before .before .before .before .before .before .before .before .args .operation)
-    (c .before .before .before .before .before .before .before .phase-word .ensures) (c .before .before .before .before .before .before .put-open .ensures) (c .before .before .put-held .ensures)
+    (c .before .before .before .before .before .before .before .phase-word .ensures) (c .before .before .before .before .before .before .put-open .ensures)
+    (c .before .before .put-held .ensures)
 
 pub put-operation-spec : {M : Type 1} → statement M
 put-operation-spec =
