@@ -8,6 +8,7 @@ use lib.IntN.{pos}
 use Rattle.record.specs.declared.Client.{Client}
 use Rattle.record.specs.declared.Replica.{Replica}
 use Rattle.record.specs.declared.Cell.{Cell}
+use Rattle.record.specs.Record.{entryLimit}
 use Rattle.stamps.specs.declared.Pair.{Pair}
 use Rattle.stamps.specs.Stamp.{lastNumber, freshPair}
 use Rattle.stamps.specs.Examples.{pairOf}
@@ -111,12 +112,12 @@ withPower power = rackOf power 0 idle freshPair oneOfEach
 abbrev entered : ℕ → Party → Rack
 entered count party = rackOf 0b111 count party freshPair (fresh .wire)
 
--- client 0 has been told a pair with this number by replica 0, and slot 0 holds what replica 1 tells it
-abbrev ending : Goal → ℕ → ℕ → Rack
-ending goal held told =
+-- client 0 has been told a pair with this number by replica 0, and slot 0 of a wire holds what replica 1 tells it
+abbrev ending : List Slot → Goal → ℕ → ℕ → Rack
+ending wire goal held told =
     rackOf 0b111 1
     (activeParty 1 (Open (record { cell = cell 0; goal = goal; phase = Asking (Holds (pairOf held 0 5)); set = 0b001 }))) freshPair
-    (set (fresh .wire) 0 (between 1 (Tell (pairOf told 0 5))))
+    (set wire 0 (between 1 (Tell (pairOf told 0 5))))
 
 -- the wire has n free slots, and client 0 reads
 abbrev crowded : ℕ → Rack
@@ -129,13 +130,13 @@ pub record TableShown : Type 0 where
   -- 2, unsound: of two clients there is no rank 2
   pub gets-2 : refusalOf (ranked 2) (Stop (client 0)) ≡ 2
   pub not-2 : refusalOf (ranked 1) (Stop (client 0)) ≡ 0
-  -- 3, not in this rack: a client, a cell, a slot, a replica, a kind; slot 255 is there, and empty
+  -- 3, not in this rack: a client, a cell, a slot, a replica, a kind; the last slot is there, and empty
   pub gets-3-client : answers fresh (starts 2 0 ++ (Resend (client 2) ∷ Stop (client 2) ∷ [])) ≡ 3 ∷ 3 ∷ 3 ∷ 3 ∷ []
   pub not-3-client : answers fresh (starts 1 0 ++ (Resend (client 1) ∷ Stop (client 1) ∷ [])) ≡ 0 ∷ 0 ∷ 7 ∷ 0 ∷ []
   pub gets-3-cell : answers fresh (starts 0 1) ≡ 3 ∷ 3 ∷ []
   pub not-3-cell : answers fresh (starts 0 0) ≡ 0 ∷ 0 ∷ []
-  pub gets-3-slot : answers fresh (slotted 256) ≡ 3 ∷ 3 ∷ 3 ∷ []
-  pub not-3-slot : answers fresh (slotted 255) ≡ 4 ∷ 4 ∷ 4 ∷ []
+  pub gets-3-slot : answers fresh (slotted slotLimit) ≡ 3 ∷ 3 ∷ 3 ∷ []
+  pub not-3-slot : answers fresh (slotted (slotLimit - 1)) ≡ 4 ∷ 4 ∷ 4 ∷ []
   pub gets-3-replica : answers fresh (switches 3) ≡ 3 ∷ 3 ∷ []
   pub not-3-replica : answers fresh (switches 2) ≡ 0 ∷ 9 ∷ []
   pub gets-3-kind : refusalOf fresh Unknown ≡ 3
@@ -161,18 +162,20 @@ pub record TableShown : Type 0 where
   pub gets-10 : answers (withClient (activeParty lastOp Idle)) (starts 0 0) ≡ 10 ∷ 10 ∷ []
   pub not-10 : answers (withClient (activeParty (lastOp - 1) Idle)) (starts 0 0) ≡ 0 ∷ 0 ∷ []
   -- 11, start, and entries + answers owed + 2 exceeds 2,048; a client that is stopped owes none
-  pub gets-11 : answers (entered 2047 idle) (starts 1 0) ≡ 11 ∷ 11 ∷ []
-  pub not-11 : answers (entered 2046 idle) (starts 1 0) ≡ 0 ∷ 0 ∷ []
-  pub gets-11-owed : answers (entered 2046 (reading false)) (starts 1 0) ≡ 11 ∷ 11 ∷ []
-  pub not-11-owed : answers (entered 2046 (reading true)) (starts 1 0) ≡ 0 ∷ 0 ∷ []
+  pub gets-11 : answers (entered (entryLimit - 1) idle) (starts 1 0) ≡ 11 ∷ 11 ∷ []
+  pub not-11 : answers (entered (entryLimit - 2) idle) (starts 1 0) ≡ 0 ∷ 0 ∷ []
+  pub gets-11-owed : answers (entered (entryLimit - 2) (reading false)) (starts 1 0) ≡ 11 ∷ 11 ∷ []
+  pub not-11-owed : answers (entered (entryLimit - 2) (reading true)) (starts 1 0) ≡ 0 ∷ 0 ∷ []
   -- 12, a write's ask phase would end with the last number: held so far, or told just now
-  pub gets-12-held : refusalOf (ending (Write (pos 5)) lastNumber 0) (Deliver 0) ≡ 12
-  pub gets-12-told : refusalOf (ending (Write (pos 5)) 0 lastNumber) (Deliver 0) ≡ 12
-  pub not-12-held : refusalOf (ending (Write (pos 5)) (lastNumber - 1) 0) (Deliver 0) ≡ 0
-  pub not-12-told : refusalOf (ending (Write (pos 5)) 0 (lastNumber - 1)) (Deliver 0) ≡ 0
-  pub not-12-read : refusalOf (ending Read lastNumber 0) (Deliver 0) ≡ 0
-  -- 13, more to send than free slots: a start and a resend to three replicas, a copy; a delivered slot counts as free
+  pub gets-12-held : refusalOf (ending (fresh .wire) (Write (pos 5)) lastNumber 0) (Deliver 0) ≡ 12
+  pub gets-12-told : refusalOf (ending (fresh .wire) (Write (pos 5)) 0 lastNumber) (Deliver 0) ≡ 12
+  pub not-12-held : refusalOf (ending (fresh .wire) (Write (pos 5)) (lastNumber - 1) 0) (Deliver 0) ≡ 0
+  pub not-12-told : refusalOf (ending (fresh .wire) (Write (pos 5)) 0 (lastNumber - 1)) (Deliver 0) ≡ 0
+  pub not-12-read : refusalOf (ending (fresh .wire) Read lastNumber 0) (Deliver 0) ≡ 0
+  -- 13, more to send than free slots: a start, a resend and a keep to three replicas, a copy; a delivered slot counts as free
   pub gets-13 : answers (crowded 2) (starts 1 0 ++ (Resend (client 0) ∷ [])) ≡ 13 ∷ 13 ∷ 13 ∷ []
   pub not-13 : answers (crowded 3) (starts 1 0 ++ (Resend (client 0) ∷ [])) ≡ 0 ∷ 0 ∷ 0 ∷ []
   pub gets-13-copy : answers (crowded 0) (slotted 0) ≡ 0 ∷ 0 ∷ 13 ∷ []
   pub not-13-copy : answers (crowded 1) (slotted 0) ≡ 0 ∷ 0 ∷ 0 ∷ []
+  pub gets-13-deliver : refusalOf (ending (allBut 1) Read 1 1) (Deliver 0) ≡ 13
+  pub not-13-deliver : refusalOf (ending (allBut 2) Read 1 1) (Deliver 0) ≡ 0

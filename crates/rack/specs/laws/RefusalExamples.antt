@@ -64,4 +64,6 @@ table-shown =
       not-13 = refl;
       gets-13-copy = refl;
       not-13-copy = refl;
+      gets-13-deliver = refl;
+      not-13-deliver = refl;
     }
