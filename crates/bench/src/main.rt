@@ -96,7 +96,7 @@ fn main() {
     read(b"80 00 is ", &[0x80, 0x00]);
     read(b"80 alone is ", &[0x80]);
     read(b"FF FF FF FF 10 is ", &[0xFF, 0xFF, 0xFF, 0xFF, 0x10]);
-    make(b"Settings 15, 8, 16 are ", 15, 8, 16);
-    make(b"Settings 16, 8, 16 are ", 16, 8, 16);
+    make(b"Sizes 15, 8, 16 are ", 15, 8, 16);
+    make(b"Sizes 16, 8, 16 are ", 16, 8, 16);
     full();
 }

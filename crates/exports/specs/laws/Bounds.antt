@@ -41,7 +41,7 @@ use Rattle.rack.specs.declared.Made.{Made}
 use Rattle.rack.specs.Sound.{settingsFit, soundOf}
 use Rattle.rack.specs.Run.{freshRack, madeOf, eventOf, ranOf, turn, appliedOf, runFrom, runOf}
 use Rattle.rack.specs.Refusals.{decided}
-use Rattle.rack.specs.laws.Refusals.{decided-refuses}
+use Rattle.rack.specs.laws.Table.{decided-refuses}
 use Rattle.runs.specs.laws.Steps.{run-steps}
 use Rattle.layout.specs.declared.WordsAnswer.{WordsAnswer}
 use Rattle.layout.specs.Layout.{wordCount}
@@ -166,13 +166,7 @@ from-refusal done r (suc left) (k ∷ a ∷ b ∷ v ∷ ws) = go (decided r (eve
 
 run-refusal : (r : Rack) (n : ℕ) (es : List ℕ) → runOf r n es .refusal ≤ 13
 unfolding runOf
-run-refusal r n es = go (eqb n 0) (ltb (length es) 4) (soundOf r)
-  where
-    go : (t u v : Bool) → cond t (ranOf 0 0 r) (cond u (ranOf 0 0 r) (cond v (runFrom 0 r n es) (ranOf 0 2 r))) .refusal ≤ 13
-    go true u v = omega arith
-    go false true v = omega arith
-    go false false true = from-refusal 0 r n es
-    go false false false = omega arith
+run-refusal r n es = from-refusal 0 r n es
 
 pub run-fits : (ws : List ℕ) (n : ℕ) (es : List ℕ) (a : WordsAnswer) → n < 2 ^ 32 → runOutcome ws n es .answer ≡ a → RunFits a
 unfolding runOutcome leaves
