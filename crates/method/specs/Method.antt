@@ -3,7 +3,7 @@
 use Prim.Native.Nat.{ℕ, _+_}
 use mathlib.Core.Path.{_≡_}
 use mathlib.Core.Logic.{_≢_}
-use mathlib.Core.Bool.{true, false}
+use mathlib.Core.Bool.{Bool, true, false, not, _&&_}
 use lib.IntN.{ℤ}
 use Rattle.record.specs.declared.Client.{Client}
 use Rattle.record.specs.declared.Replica.{Replica}
@@ -11,8 +11,9 @@ use Rattle.record.specs.declared.Cell.{Cell}
 use Rattle.quorum.specs.Sets.{hasReplica, withReplica, withoutReplica, asksEnough, keepsEnough, everyReplica, others}
 use Rattle.stamps.specs.declared.Stamp.{Stamp}
 use Rattle.stamps.specs.declared.Pair.{Pair}
-use Rattle.stamps.specs.Stamp.{raised}
+use Rattle.stamps.specs.Stamp.{lastNumber, raised}
 use Rattle.method.specs.Holding.{holds, firstEntry, lastEntry}
+use Rattle.method.specs.declared.Body.{Body}
 use Rattle.method.specs.declared.Body.the-variants.{Ask, Tell, Keep, Kept}
 use Rattle.method.specs.declared.Message.{Message}
 use Rattle.method.specs.declared.InSlot.{InSlot}
@@ -20,16 +21,18 @@ use Rattle.method.specs.declared.InSlot.the-variants.{Empty, Full}
 use Rattle.method.specs.declared.Goal.{Goal}
 use Rattle.method.specs.declared.Goal.the-variants.{Read, Write}
 use Rattle.method.specs.declared.Holding.{Holding}
+use Rattle.method.specs.declared.Phase.{Phase}
 use Rattle.method.specs.declared.Phase.the-variants.{Asking, Keeping}
 use Rattle.method.specs.declared.Operation.{Operation}
+use Rattle.method.specs.declared.Work.{Work}
 use Rattle.method.specs.declared.Work.the-variants.{Idle, Open}
 use Rattle.method.specs.declared.Sight.{Sight}
 use Rattle.method.specs.declared.Event.{Event}
 use Rattle.method.specs.declared.Event.the-variants.{StartRead, StartWrite, Deliver, Lose, Copy, Resend, Stop, Off, On, Unknown}
 use Rattle.method.specs.declared.Note.the-variants.{Nothing, Asked, Ended}
 use Rattle.method.specs.declared.Plan.{Plan}
-use Rattle.method.specs.Plan.{toReplicas, noMessage, activeParty, planned, usedUp, answered, powered, asked, asking, keeping, request}
-use Rattle.method.specs.Refusals.{lastOp}
+use Rattle.method.specs.Plan.{current, toReplicas, noMessage, activeParty, planned, usedUp, answered, powered, asked, asking, keeping, request}
+use Rattle.method.specs.Refusals.{lastOp, toReplica, isWrite}
 
 -- ---- pairs
 
@@ -108,6 +111,7 @@ pub record Chooses (s : Sight) (m : Message) (p : Plan) : Type 0 where
   pub enough : asksEnough (s .quorums) (heardSet heard) ≡ true
   pub chosen : Pair
   pub choice : Chosen (heard .operation .goal) (m .client .0) (heardPair heard) chosen
+  pub next : isWrite (heard .operation .goal) ≡ true → heardPair heard .stamp .number ≢ lastNumber
   pub plan : p
       ≡ planned s (activeParty (s .party .op) (Open (keeping (heard .operation) 0 chosen))) true Nothing
       (toReplicas (m .client) (heard .operation .cell) (s .party .op) (Keep chosen)) (everyReplica (s .quorums .replicas))
@@ -140,7 +144,31 @@ pub record Ends (s : Sight) (m : Message) (p : Plan) : Type 0 where
   pub plan : p
       ≡ planned s (activeParty (s .party .op) Idle) true (Ended (lastEntry (counted .operation .goal) (m .client) (counted .held))) m 0
 
--- what delivering the message m may do; a tell or a kept that doesn't count is used up
+-- the phase fits an answer: a tell in the ask phase, a kept in the keep phase
+abbrev pub fitsPhase : Body → Phase → Bool
+fitsPhase Ask ph = false
+fitsPhase (Tell q) (Asking held) = true
+fitsPhase (Tell q) (Keeping held) = false
+fitsPhase (Keep q) ph = false
+fitsPhase Kept (Asking held) = false
+fitsPhase Kept (Keeping held) = true
+
+-- an answer counts for what the client is at: the phase fits, and this replica isn't yet in the set
+abbrev pub countsFor : Work → Message → Bool
+countsFor Idle m = false
+countsFor (Open o) m = fitsPhase (m .body) (o .phase) && not (hasReplica (o .set) (m .replica .0))
+
+-- an answer counts: the client isn't stopped, and the operation number is that of its open operation
+abbrev pub counting : Sight → Message → Bool
+counting s m = current (s .party) m && countsFor (s .party .work) m
+
+-- a tell or a kept that doesn't count is used up
+pub record Spends (s : Sight) (m : Message) (p : Plan) : Type 0 where
+  pub answer : toReplica (m .body) ≡ false
+  pub late : counting s m ≡ false
+  pub plan : p ≡ usedUp s m
+
+-- what delivering the message m may do
 pub data Delivers (s : Sight) (m : Message) (p : Plan) : Type 0 where
   tells : Tells s m p → Delivers s m p
   takes : Takes s m p → Delivers s m p
@@ -148,7 +176,7 @@ pub data Delivers (s : Sight) (m : Message) (p : Plan) : Type 0 where
   chooses : Chooses s m p → Delivers s m p
   counts : Counts s m p → Delivers s m p
   ends : Ends s m p → Delivers s m p
-  spends : p ≡ usedUp s m → Delivers s m p
+  spends : Spends s m p → Delivers s m p
 
 -- ---- the other events
 

@@ -165,7 +165,7 @@ deliver-adds s m p (hears x) = rw (x .plan)
 deliver-adds s m p (chooses x) = rw (x .plan)
 deliver-adds s m p (counts x) = rw (x .plan)
 deliver-adds s m p (ends x) = rw (x .plan) (last-adds (x .counted .operation .goal) (m .client) (x .counted .held))
-deliver-adds s m p (spends x) = rw x
+deliver-adds s m p (spends x) = rw (x .plan)
 
 -- a start write adds its write, and nothing else adds one
 plan-adds : (s : Sight) (held : Slotted) (e : Event) (p : Plan) → Does s held e p → writesIn (p .note) ≡ writesBy e

@@ -185,7 +185,7 @@ module _ (z : Settings) (s : Sight) (work : WorkSmall (s .party .work)) (here : 
           pair = here;
           body = small;
         })
-    deliver-keeps p (spends x) = subst (Keeps z (m .client .0) has) (sym x) used-keeps
+    deliver-keeps p (spends x) = subst (Keeps z (m .client .0) has) (sym (x .plan)) used-keeps
 
   -- ---- every event
 

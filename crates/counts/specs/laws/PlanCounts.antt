@@ -205,7 +205,7 @@ module _ (s : Sight) (few : s .quorums .replicas ≤ setBits) where
           else-costs = λ c k h. silent c k (Deliver slot) q z;
           else-ends = λ c h. last-else goal (m .client) (y .held) c h;
         })
-    deliver-counts slot p (spends x) = subst (PlanCounts n (m .client .0) party (Deliver slot)) (sym x) (used-counts (Deliver slot) refl refl)
+    deliver-counts slot p (spends x) = subst (PlanCounts n (m .client .0) party (Deliver slot)) (sym (x .plan)) (used-counts (Deliver slot) refl refl)
 
     copy-counts : (slot : ℕ) (p : Plan) → Copies s m p → PlanCounts n (m .client .0) party (Copy slot) p
     unfolding freed deliveredBy lostBy sentBy copiedBy

@@ -81,7 +81,7 @@ module _ (z : Settings) (n : Sized z) (s : Sight) (on : s .power < powerLimit) (
     deliver-stays p (counts x) = subst PlanStays (sym (x .plan)) (record { power = on; op = small; message = late; note = tt })
     deliver-stays p (ends x) =
         subst PlanStays (sym (x .plan)) (record { power = on; op = small; message = late; note = last-fits (x .counted .operation .goal) (x .counted .held) })
-    deliver-stays p (spends x) = subst PlanStays (sym x) used-stays
+    deliver-stays p (spends x) = subst PlanStays (sym (x .plan)) used-stays
 
   -- ---- every event
 

@@ -1,7 +1,7 @@
 -- Every plan is of the method: what is done of an event is what the method says of its kind. What stands on plans goes by this, and not by their text.
 use Prim.Native.Nat.{ℕ}
-use mathlib.Core.Path.{_≡_, refl, sym, _∙_, subst}
-use mathlib.Core.Logic.{_⊎_, inl, inr}
+use mathlib.Core.Path.{_≡_, refl, ap, sym, _∙_, subst}
+use mathlib.Core.Logic.{_≢_, _⊎_, inl, inr}
 use mathlib.Core.Bool.{Bool, true, false, cond, not, _&&_}
 use lib.Dec.{eqb}
 use borrow.Author.Tests.{eqb-true, eqb-false, not-true}
@@ -30,11 +30,11 @@ use Rattle.method.specs.declared.Decision.{Decision}
 use Rattle.method.specs.declared.Decision.the-variants.{No, Go}
 use Rattle.method.specs.Holding.{holds}
 use Rattle.method.specs.Plan.{usedUp, startOf, askOf, keepOf, current, written, keepsOf, keptCounts, keptIn, keptAt, keptOf, copyOf, resendOf, stopOf}
-use Rattle.method.specs.Refusals.{lastOp, decisionOf}
+use Rattle.method.specs.Refusals.{lastOp, toReplica, isWrite, decisionOf}
 use Rattle.method.specs.About.{clientIn, clientOf}
-use Rattle.method.specs.Method.{Chosen, Starts, Resends, Stops, SwitchesOff, SwitchesOn, Heard, heardSet, heardPair, Counted, countedSet, Delivers, Does}
+use Rattle.method.specs.Method.{Chosen, Starts, Resends, Stops, SwitchesOff, SwitchesOn, Heard, heardSet, heardPair, Counted, countedSet, counting, Delivers, Does}
 use Rattle.method.specs.Method.Delivers.{tells, takes, hears, chooses, counts, ends, spends}
-use Rattle.method.specs.laws.Tests.{and-left, and-right, either}
+use Rattle.method.specs.laws.Tests.{never, and-left, and-right, either}
 use Rattle.method.specs.laws.InTurn.{startIn, startTurn, ifOn, phaseEnds, tellEnough, tellPhase, tellWork, tellTurn, deliverTurn, resendIn, resendTurn, stopTurn, offTurn, onTurn}
 use Rattle.method.specs.laws.InTurn.{slotTurn, turnOf, in-turn}
 
@@ -63,8 +63,9 @@ module _ (s : Sight) where
     abbrev It : Decision → Type 0
     It = IfGo (Delivers s m)
 
-    spent : It (Go (usedUp s m))
-    spent = spends refl
+    -- an answer that doesn't count
+    spent : toReplica (m .body) ≡ false → counting s m ≡ false → Delivers s m (usedUp s m)
+    spent a l = spends (record { answer = a; late = l; plan = refl })
 
     ask-does : m .body ≡ Ask → It (ifOn s m (Go (askOf s m)))
     unfolding ifOn askOf
@@ -79,16 +80,17 @@ module _ (s : Sight) where
 
     module _ (h : Heard s m) where
       keeps-does : asksEnough (s .quorums) (heardSet h) ≡ true → (chosen : Pair) → Chosen (h .operation .goal) (m .client .0) (heardPair h) chosen
-          → Delivers s m (keepsOf s m (h .operation) chosen)
+          → (isWrite (h .operation .goal) ≡ true → heardPair h .stamp .number ≢ lastNumber) → Delivers s m (keepsOf s m (h .operation) chosen)
       unfolding keepsOf
-      keeps-does e chosen k = chooses (record { heard = h; enough = e; chosen = chosen; choice = k; plan = refl })
+      keeps-does e chosen k n = chooses (record { heard = h; enough = e; chosen = chosen; choice = k; next = n; plan = refl })
 
       phase-does : asksEnough (s .quorums) (heardSet h) ≡ true → (goal : Goal) → h .operation .goal ≡ goal → It (phaseEnds goal s m (h .operation) (heardPair h))
       unfolding phaseEnds
-      phase-does e Read q = keeps-does e (heardPair h) (rw q refl)
+      phase-does e Read q = keeps-does e (heardPair h) (rw q refl) (λ w. never (sym (ap isWrite q) ∙ w))
       phase-does e (Write v) q =
           either It (eqb (heardPair h .stamp .number) lastNumber) _ _ (λ z. tt)
-          (λ z. keeps-does e (written (m .client) v (heardPair h)) (rw q (record { stamp = record { number = refl; rank = refl }; value = refl })))
+          (λ z. keeps-does e (written (m .client) v (heardPair h)) (rw q (record { stamp = record { number = refl; rank = refl }; value = refl }))
+          (λ w. eqb-false (heardPair h .stamp .number) lastNumber z))
 
       tell-counts-does : It (tellEnough s m (h .operation) (heardSet h) (heardPair h))
       unfolding tellEnough
@@ -108,12 +110,15 @@ module _ (s : Sight) where
 
     tell-does : (q : Pair) → m .body ≡ Tell q → It (tellTurn s m q)
     unfolding tellTurn tellWork tellPhase
-    tell-does q b = either It (current (s .party) m) _ _ (λ c. go c (s .party .work) refl) (λ c. spent)
+    tell-does q b = either It (current (s .party) m) _ _ (λ c. go c (s .party .work) refl) (λ c. spent told (rw c))
       where
+        told : toReplica (m .body) ≡ false
+        told = rw b
+
         in-phase : current (s .party) m ≡ true → (o : Operation) → s .party .work ≡ Open o → (ph : Phase) → o .phase ≡ ph → It (tellPhase ph s m o q)
-        in-phase c o w (Keeping held) p = spent
+        in-phase c o w (Keeping held) p = spent told (rw (c, w, b, p))
         in-phase c o w (Asking held) p =
-            either It (hasReplica (o .set) (m .replica .0)) _ _ (λ z. spent)
+            either It (hasReplica (o .set) (m .replica .0)) _ _ (λ z. spent told (rw (c, w, b, p, z)))
             (λ z. tell-counts-does (record {
               told = q;
               body = b;
@@ -127,7 +132,7 @@ module _ (s : Sight) where
             }))
 
         go : current (s .party) m ≡ true → (w : Work) → s .party .work ≡ w → It (tellWork w s m q)
-        go c Idle e = spent
+        go c Idle e = spent told (rw (c, e))
         go c (Open o) e = in-phase c o e (o .phase) refl
 
     -- ---- a kept
@@ -141,12 +146,15 @@ module _ (s : Sight) where
 
     kept-does : m .body ≡ Kept → Delivers s m (keptOf s m)
     unfolding keptOf keptAt keptIn
-    kept-does b = either (Delivers s m) (current (s .party) m) _ _ (λ c. go c (s .party .work) refl) (λ c. spends refl)
+    kept-does b = either (Delivers s m) (current (s .party) m) _ _ (λ c. go c (s .party .work) refl) (λ c. spent kept (rw c))
       where
+        kept : toReplica (m .body) ≡ false
+        kept = rw b
+
         in-phase : current (s .party) m ≡ true → (o : Operation) → s .party .work ≡ Open o → (ph : Phase) → o .phase ≡ ph → Delivers s m (keptIn ph s m o)
-        in-phase c o w (Asking held) p = spends refl
+        in-phase c o w (Asking held) p = spent kept (rw (c, w, b, p))
         in-phase c o w (Keeping held) p =
-            either (Delivers s m) (hasReplica (o .set) (m .replica .0)) _ _ (λ z. spends refl)
+            either (Delivers s m) (hasReplica (o .set) (m .replica .0)) _ _ (λ z. spent kept (rw (c, w, b, p, z)))
             (λ z. kept-counts-does (record {
               body = b;
               acts = active c;
@@ -159,7 +167,7 @@ module _ (s : Sight) where
             }))
 
         go : current (s .party) m ≡ true → (w : Work) → s .party .work ≡ w → Delivers s m (keptAt w s m)
-        go c Idle e = spends refl
+        go c Idle e = spent kept (rw (c, e))
         go c (Open o) e = in-phase c o e (o .phase) refl
 
     deliver-does : (b : Body) → m .body ≡ b → It (deliverTurn b s m)
@@ -224,7 +232,7 @@ own-messages s (Full m) (Deliver slot) p d = go d
     go (chooses c) = rw (c .plan) (inr refl)
     go (counts c) = rw (c .plan) (inl refl)
     go (ends c) = rw (c .plan) (inl refl)
-    go (spends c) = rw c (inl refl)
+    go (spends c) = rw (c .plan) (inl refl)
 own-messages s Empty (Lose slot) p d = absurd d
 own-messages s (Full m) (Lose slot) p d = rw d (inl refl)
 own-messages s Empty (Copy slot) p d = absurd d

@@ -100,7 +100,7 @@ module _ (r : Rack) (e : Event) (p : Plan) (k : Tied r) (z : Sized (r .settings)
         ),
       )
   deliver-next m here own (spends q) =
-      as-planned _ q (_, (_, rests-next r e v name (k .tie) (c .looked) (usedUp (sight r e) m) refl refl refl refl refl))
+      as-planned _ (q .plan) (_, (_, rests-next r e v name (k .tie) (c .looked) (usedUp (sight r e) m) refl refl refl refl refl))
 
 -- a plan that changes nothing of what the view sees, and sends nothing
 still-next : (r : Rack) (e : Event) (p : Plan) (k : Tied r) → Looked r e → p .party .op ≡ opOf r (lookedClient r e) → p .party .work ≡ lookedParty r e .work

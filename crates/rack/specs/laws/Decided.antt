@@ -151,7 +151,7 @@ note-room r e p x f h = go (lookedHeld r e) e x f
     delivered m (chooses y) = subst Room (sym (y .plan)) (omega arith)
     delivered m (counts y) = subst Room (sym (y .plan)) (omega arith)
     delivered m (ends y) = subst Room (sym (y .plan)) (omega arith)
-    delivered m (spends y) = subst Room (sym y) (omega arith)
+    delivered m (spends y) = subst Room (sym (y .plan)) (omega arith)
 
     go : (held : InSlot) (ev : Event) → Does (sight r e) held ev p → (isStart ev && ltb entryLimit (r .count + owed r + 2)) ≡ false → Room p
     go held (StartRead client cell) y q = subst Room (sym (y .plan)) (ltb-false entryLimit (r .count + owed r + 2) q)

@@ -264,7 +264,7 @@ module _ (z : Settings) (n : Sized z) (power : ℕ) (party : Party) (pair : Pair
           entries = omega (arith, open-owes party (y .operation) (y .acts) (y .before));
           slot = λ e. refl;
         })
-    deliver-fits p (spends x) = subst (PlanFits z party (Full m)) (sym x) used-fits
+    deliver-fits p (spends x) = subst (PlanFits z party (Full m)) (sym (x .plan)) used-fits
 
   -- ---- resend, stop, power
 

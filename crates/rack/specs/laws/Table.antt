@@ -168,6 +168,15 @@ pub decided-unsound : (r : Rack) (e : Event) → soundOf r ≡ false → decided
 unfolding decided refusalOf leastFrom applies
 decided-unsound r e h = rw h
 
+-- and on one that is sound none is
+pub decided-fit : (r : Rack) (e : Event) (k : ℕ) → soundOf r ≡ true → decided r e ≡ No k → k ≢ 2
+unfolding applies
+decided-fit r e k h d q =
+    let n = decided-no r e k d in
+    let t : applies k r e ≡ true = refused-exactly r e k (n .1) .0 (n .0) .0 in
+    let u : applies 2 r e ≡ true = ap (λ (j : ℕ). applies j r e) (sym q) ∙ t in
+    never (sym (ap not h) ∙ u)
+
 -- a number that is given is one of 2 to 13
 pub decided-refuses : (r : Rack) (e : Event) (k : ℕ) → decided r e ≡ No k → (2 ≤ k) × (k ≤ 13)
 unfolding refusalOf
@@ -213,7 +222,7 @@ noted-starts s (Full m) (Deliver slot) p x taken d = delivered x
     delivered (chooses y) = rw (y .plan)
     delivered (counts y) = rw (y .plan)
     delivered (ends y) = rw (y .plan)
-    delivered (spends y) = rw y
+    delivered (spends y) = rw (y .plan)
 noted-starts s Empty (Lose slot) p x taken d = absurd x
 noted-starts s (Full m) (Lose slot) p x taken d = rw x
 noted-starts s Empty (Copy slot) p x taken d = absurd x
