@@ -8,11 +8,12 @@ use native.Mathlib.Omega.{arith}
 use native.Mathlib.Decide.{ℕ-discrete}
 use lib.ListN.{getD, set, length-set}
 use lib.Seq.{getD-set-same, getD-set-other}
+use Rattle.record.specs.Record.{entryLimit}
 use Rattle.chains.specs.declared.Linked.the-variants.{All as allLinked, Again as againAt}
 use Rattle.chains.specs.declared.Write.{Write}
 use Rattle.chains.specs.declared.Write.the-variants.{At, None}
 use Rattle.chains.specs.Chains.{Again, NoneAgain}
-use Rattle.chains.specs.Table.{homeAt, Homed, Latest, Chained, Empty, Found, Stays, Linking}
+use Rattle.chains.specs.Table.{chainCount, homeAt, Homed, Latest, Chained, Empty, Found, Stays, Linking}
 use Rattle.chains.specs.laws.Entering.{Decides, Only, Entered}
 
 -- below n + 1 is n, or below n
@@ -39,7 +40,7 @@ module _ {kinds cells values : List ℕ} where
         (λ l. t .last p (record { below = l; write = q .write; home = q .home })) (upper (q .below));
   }
 
-  module _ {n : ℕ} {head next : List ℕ} (t : Chained kinds cells values n head next) (room : n < 2048) where
+  module _ {n : ℕ} {head next : List ℕ} (t : Chained kinds cells values n head next) (room : n < entryLimit) where
     -- an entry that is no write
     pub chained-pass : (getD kinds n 0 ≡ 1 → ⊥) → Chained kinds cells values (n + 1) head next
     chained-pass not = record {
@@ -53,8 +54,8 @@ module _ {kinds cells values : List ℕ} where
     pub pass-only : Only kinds n next next
     pass-only = record { same = λ q h. refl }
 
-    module _ (write : getD kinds n 0 ≡ 1) {b : ℕ} (eb : b ≡ homeAt cells values n) (small : b < 4096) where
-      heads-on : (h : ℕ) → h < 4096 → Latest kinds cells values (n + 1) h (getD (set head b (n + 1)) h 0)
+    module _ (write : getD kinds n 0 ≡ 1) {b : ℕ} (eb : b ≡ homeAt cells values n) (small : b < chainCount) where
+      heads-on : (h : ℕ) → h < chainCount → Latest kinds cells values (n + 1) h (getD (set head b (n + 1)) h 0)
       heads-on h sh = elim (ℕ-discrete h b) [
         | yes e ↦ (let q : getD (set head b (n + 1)) h 0 ≡ n + 1 =
             ap (λ x. getD (set head b (n + 1)) x 0) e ∙ getD-set-same head b (n + 1) 0 (let a = t .head-long in omega arith) in

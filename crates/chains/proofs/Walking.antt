@@ -5,9 +5,10 @@ use mathlib.Core.List.{List}
 use native.Mathlib.Omega.{arith}
 use native.Mathlib.Decide.{decLt}
 use lib.ListN.{getD}
+use Rattle.record.specs.Record.{entryLimit}
 use Rattle.chains.specs.declared.Write.the-variants.{At, None}
 use Rattle.chains.specs.Chains.{Asks}
-use Rattle.chains.specs.Table.{homeOf, Homed, Latest, Chained, Found}
+use Rattle.chains.specs.Table.{chainCount, homeOf, Homed, Latest, Chained, Found}
 
 pub record Walk (kinds cells values : List ℕ) (n : ℕ) (head next : List ℕ) (cell value link : ℕ) : Type 0 where
   pub table : Chained kinds cells values n head next
@@ -21,7 +22,7 @@ asks-homed e l a = record { below = l; write = a .write; home = ap₂ homeOf (a 
 
 module _ {kinds cells values : List ℕ} {n : ℕ} {head next : List ℕ} {cell value : ℕ} where
   -- the search begins at the chain's head
-  pub walk-start : {h link : ℕ} → Chained kinds cells values n head next → h ≡ homeOf cell value → h < 4096 → link ≡ getD head h 0 →
+  pub walk-start : {h link : ℕ} → Chained kinds cells values n head next → h ≡ homeOf cell value → h < chainCount → link ≡ getD head h 0 →
       Walk kinds cells values n head next cell value link
   walk-start {h} {link} t eh small el =
       let top = subst (Latest kinds cells values n h) (sym el) (t .heads h small) in record {
@@ -31,7 +32,7 @@ module _ {kinds cells values : List ℕ} {n : ℕ} {head next : List ℕ} {cell 
       }
 
   module _ {link : ℕ} (w : Walk kinds cells values n head next cell value link) (some : 0 < link) where
-    pub walk-fits : link - 1 < 2048
+    pub walk-fits : link - 1 < entryLimit
     walk-fits = let a = w .on some .below in let b = w .table .few in omega arith
 
     -- the next link of the chain leads to its greatest write before this one

@@ -4,15 +4,20 @@ use Prim.Native.Nat.{ℕ, _+_, _*_, _-_, _/_, _%_, _≤_, _<_}
 use mathlib.Core.Path.{_≡_}
 use mathlib.Core.List.{List}
 use lib.ListN.{length, getD}
+use Rattle.record.specs.Record.{entryLimit}
 use Rattle.chains.specs.declared.Linked.{Linked}
 use Rattle.chains.specs.declared.Linked.the-variants.{All as allLinked, Again as againAt}
 use Rattle.chains.specs.declared.Write.{Write}
 use Rattle.chains.specs.declared.Write.the-variants.{At, None}
 use Rattle.chains.specs.Chains.{Asks, Again, NoneAgain}
 
+-- how many chains there are: twice as many as a record has entries
+abbrev pub chainCount : ℕ
+chainCount = 2 * entryLimit
+
 -- the chain of a cell and a value
 unfoldable pub homeOf : ℕ → ℕ → ℕ
-homeOf cell value = (((value + cell * 65537) * 1327217885) / 1048576) % 4096
+homeOf cell value = (((value + cell * 65537) * 1327217885) / 1048576) % chainCount
 
 -- an entry's chain
 abbrev pub homeAt : List ℕ → List ℕ → ℕ → ℕ
@@ -31,16 +36,16 @@ pub record Latest (kinds cells values : List ℕ) (n h link : ℕ) : Type 0 wher
 
 -- the table holds every write below n: a chain's head leads to its greatest, and a write's next to the greatest of its chain before it
 pub record Chained (kinds cells values : List ℕ) (n : ℕ) (head next : List ℕ) : Type 0 where
-  pub few : n ≤ 2048
-  pub head-long : length head ≡ 4096
-  pub next-long : length next ≡ 2048
-  pub heads : (h : ℕ) → h < 4096 → Latest kinds cells values n h (getD head h 0)
+  pub few : n ≤ entryLimit
+  pub head-long : length head ≡ chainCount
+  pub next-long : length next ≡ entryLimit
+  pub heads : (h : ℕ) → h < chainCount → Latest kinds cells values n h (getD head h 0)
   pub nexts : (p : ℕ) → p < n → getD kinds p 0 ≡ 1 → Latest kinds cells values p (homeAt cells values p) (getD next p 0)
 
 -- the table before the first write
 pub record Empty (head next : List ℕ) : Type 0 where
-  pub head-long : length head ≡ 4096
-  pub next-long : length next ≡ 2048
+  pub head-long : length head ≡ chainCount
+  pub next-long : length next ≡ entryLimit
   pub no-heads : (h : ℕ) → getD head h 0 ≡ 0
 
 -- what searching the table gives: the last write that asks this, or none does

@@ -2,8 +2,9 @@
 ghost use mathlib.Core.Path.{_≡_};
 ghost use Prim.Native.Nat.{_+_, _%_, _≤_, _<_};
 ghost use lib.ListN.{getD};
+ghost use Rattle.record.specs.Record.{entryLimit};
 ghost use Rattle.chains.specs.Chains.{Again};
-ghost use Rattle.chains.specs.Table.{homeOf, Chained, Empty, Found, Linking};
+ghost use Rattle.chains.specs.Table.{chainCount, homeOf, Chained, Empty, Found, Linking};
 ghost use Rattle.chains.specs.laws.Entering.{Decides, Entered};
 use record::Cell;
 use record::ENTRY_LIMIT;
@@ -52,14 +53,14 @@ fn narrow(x: usize) -> u16
 }
 
 fn chain_of(x: u64) -> usize
-    ensures { λ r. ⌜ (r ≡ x % 4096) × (r < 4096) ⌝ }
+    ensures { λ r. ⌜ (r ≡ x % chainCount) × (r < chainCount) ⌝ }
 {
     (x % WIDE_CHAINS) as usize
 }
 
 // The chain of a cell and a value: the middle of a product, so that near values lie far apart.
 fn home(cell: Cell, value: u32) -> usize
-    ensures { λ r. ⌜ (r ≡ homeOf (cell .0) value) × (r < 4096) ⌝ }
+    ensures { λ r. ⌜ (r ≡ homeOf (cell .0) value) × (r < chainCount) ⌝ }
 {
     let x = wide_value(value) + wide_cell(cell.0) * 65537;
     let y = x * 1327217885;
@@ -74,7 +75,7 @@ fn suits(
     cell: Cell,
     value: u32,
 ) -> bool
-    requires { ⌜ w < 2048 ⌝ }
+    requires { ⌜ w < entryLimit ⌝ }
     ensures { λ r. ⌜ Decides ((getD (now (cells .entry)) w 0 ≡ cell .0) × (getD (now (values .entry)) w 0 ≡ value)) r ⌝ }
 {
     if values[w] == value {
@@ -120,7 +121,7 @@ fn asks_again(
     head: &[u16; CHAINS],
     next: &[u16; ENTRY_LIMIT],
 ) -> bool
-    requires { ⌜ (p < 2048) × (getD (now kinds) p 0 ≡ 1) × Chained (now kinds) (now cells) (now values) p (now head) (now next) ⌝ }
+    requires { ⌜ (p < entryLimit) × (getD (now kinds) p 0 ≡ 1) × Chained (now kinds) (now cells) (now values) p (now head) (now next) ⌝ }
     ensures { λ r. ⌜ Decides (Again (now (kinds .entry)) (now (cells .entry)) (now (values .entry)) p) r ⌝ }
 {
     if values[p] == 0 {
@@ -142,7 +143,7 @@ fn enter(
     head: &mut [u16; CHAINS],
     next: &mut [u16; ENTRY_LIMIT],
 ) -> bool
-    requires { ⌜ (p < 2048) × Chained (now kinds) (now cells) (now values) p (now head) (now next) ⌝ }
+    requires { ⌜ (p < entryLimit) × Chained (now kinds) (now cells) (now values) p (now head) (now next) ⌝ }
     ensures { λ r. ⌜ Entered (now (kinds .entry)) (now (cells .entry)) (now (values .entry)) p (now (head .entry)) (now (next .entry)) (now (head .exit)) (now (next .exit)) r ⌝ }
 {
     if kinds[p] != 1 {
@@ -168,7 +169,7 @@ pub fn link(
     head: &mut [u16; CHAINS],
     next: &mut [u16; ENTRY_LIMIT],
 ) -> Linked
-    requires { ⌜ (n ≤ 2048) × Empty (now head) (now next) ⌝ }
+    requires { ⌜ (n ≤ entryLimit) × Empty (now head) (now next) ⌝ }
     ensures { λ r. ⌜ Linking (now (kinds .entry)) (now (cells .entry)) (now (values .entry)) n (now (next .entry)) (now (head .exit)) (now (next .exit)) r ⌝ }
 {
     let mut p: usize = 0;

@@ -4,6 +4,7 @@ ghost use mathlib.Core.Bool.{_&&_, cond};
 ghost use Prim.Native.Nat.{_+_, _<_};
 ghost use lib.Dec.{ltb};
 ghost use lib.Count.{ones};
+ghost use Rattle.number.specs.Below.{byteLimit};
 ghost use Rattle.number.specs.Value.{signedOf};
 ghost use Rattle.method.specs.About.{clientIn, clientOf};
 ghost use Rattle.record.specs.Record.{entryLimit};
@@ -17,6 +18,7 @@ use method::Event;
 use method::InSlot;
 use method::Note;
 use method::Party;
+use quorum::Set;
 use rack::Rack;
 use rack::Settings;
 use rack::owed::owed_by_all;
@@ -191,7 +193,7 @@ pub fn slot_of(event: Event) -> usize
 
 // A byte as a place.
 fn place(x: u8) -> usize
-    ensures { λ r. ⌜ (r ≡ x) × (r < 256) ⌝ }
+    ensures { λ r. ⌜ (r ≡ x) × (r < byteLimit) ⌝ }
 {
     x as usize
 }
@@ -242,14 +244,14 @@ pub fn client_of(event: Event, held: InSlot) -> usize
 }
 
 // How many replicas a set has.
-fn size(set: u16) -> usize
+fn size(set: Set) -> usize
     ensures { λ r. ⌜ r ≡ ones set ⌝ }
 {
     quorum::count(set) as usize
 }
 
 // Whether there is more to send than free slots; a slot that becomes empty counts as free.
-fn short(room: usize, clear: bool, to: u16) -> bool
+fn short(room: usize, clear: bool, to: Set) -> bool
     ensures { λ r. ⌜ r ≡ ltb (room + freed clear) (ones to) ⌝ }
 {
     let more = size(to);
@@ -263,7 +265,7 @@ fn short(room: usize, clear: bool, to: u16) -> bool
 }
 
 // 13: more to send than free slots.
-fn sent(outcome: Decision, room: usize, clear: bool, to: u16) -> Decision
+fn sent(outcome: Decision, room: usize, clear: bool, to: Set) -> Decision
     ensures { λ r. ⌜ r ≡ cond (ltb (room + freed clear) (ones to)) (Decision.No 13) outcome ⌝ }
 {
     if short(room, clear, to) {

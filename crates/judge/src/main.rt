@@ -1,13 +1,14 @@
 // The judge: reads a record from standard input, and writes its verdict as one line.
 use input::Ending;
 use libc::STDOUT_FILENO;
+use record::LONGEST_RECORD;
 
-// No record has more than 16,384 bytes, so the first 16,385 of any input decide.
-const DECIDES: usize = 16385;
+// So many bytes of any input decide: those of the longest record, and one more.
+const DECIDES: usize = LONGEST_RECORD + 1;
 
 // Writes the line of the verdict on a record's bytes.
 fn say(bytes: &[u8]) {
-    let mut line = [0u8; 64];
+    let mut line = [0u8; report::LINE_ROOM];
     let n = report::report(verdict::judge(bytes), &mut line);
     io::write_all(STDOUT_FILENO, &line[..n]);
 }

@@ -167,6 +167,10 @@ refusedLine k = refusedWord ++ (refusalText k ++ lineFeed)
 unfoldable pub ranText : Ran → List ℕ
 ranText q = (field doneStart (q .done) ++ (lineFeed ++ refusedLine (q .refusal))) ++ rackText (q .rack)
 
+-- so many bytes have room for them, and for the line below
+abbrev pub textRoom : ℕ
+textRoom = 262144
+
 -- the one line of a script that has a fault
 unfoldable pub faultLine : ℕ → ℕ → List ℕ
 faultLine refusal byte = field refusedWord refusal ++ (field byteWords byte ++ lineFeed)

@@ -7,9 +7,13 @@ use lib.ListN.{getD}
 abbrev pub Below : ℕ → List ℕ → Type 0
 Below m s = (i : ℕ) → getD s i 0 < m
 
+-- the first number that is no byte
+abbrev pub byteLimit : ℕ
+byteLimit = 256
+
 -- every number is a byte
 abbrev pub Bytes : List ℕ → Type 0
-Bytes s = Below 256 s
+Bytes s = Below byteLimit s
 
 -- every number is a word of 32 bits
 abbrev pub Words : List ℕ → Type 0

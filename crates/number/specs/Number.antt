@@ -11,10 +11,18 @@ use Rattle.number.specs.declared.Number.the-variants.{Is, Refused}
 use Rattle.number.specs.declared.Put.{Put}
 use Rattle.number.specs.declared.Put.the-variants.{Next, NoRoom}
 
+-- a group of seven bits says one of 128 numbers
+abbrev pub groupSize : ℕ
+groupSize = 128
+
+-- the fifth byte has room for the four bits that are left of 32
+abbrev pub fifthMost : ℕ
+fifthMost = 15
+
 -- groups of seven bits, lowest group first, 128 added to every byte but the last; at most f groups after the first
 unfoldable pub groupsOf : ℕ → ℕ → List ℕ
 groupsOf zero n = n ∷ []
-groupsOf (suc f) n = cond (ltb n 128) (n ∷ []) ((128 + n % 128) ∷ groupsOf f (n / 128))
+groupsOf (suc f) n = cond (ltb n groupSize) (n ∷ []) ((groupSize + n % groupSize) ∷ groupsOf f (n / groupSize))
 
 -- the bytes of a number: five at most
 abbrev pub numberBytes : ℕ → List ℕ
@@ -25,17 +33,17 @@ unfoldable pub taken : ℕ → List ℕ → List ℕ
 taken zero [] = []
 taken zero (b ∷ bs) = b ∷ []
 taken (suc f) [] = []
-taken (suc f) (b ∷ bs) = cond (ltb b 128) (b ∷ []) (b ∷ taken f bs)
+taken (suc f) (b ∷ bs) = cond (ltb b groupSize) (b ∷ []) (b ∷ taken f bs)
 
 -- the last of the bytes taken; of none, 128: more had to follow
 unfoldable pub lastOf : List ℕ → ℕ
-lastOf [] = 128
+lastOf [] = groupSize
 lastOf (b ∷ []) = b
 lastOf (b ∷ c ∷ bs) = lastOf (c ∷ bs)
 
 -- 21: the bytes end first
 abbrev pub endsFirst : List ℕ → Bool
-endsFirst bs = ltb (length bs) 5 && leb 128 (lastOf bs)
+endsFirst bs = ltb (length bs) 5 && leb groupSize (lastOf bs)
 
 -- 22: several bytes and the last is 0
 abbrev pub lastIsZero : List ℕ → Bool
@@ -43,12 +51,12 @@ lastIsZero bs = ltb 1 (length bs) && eqb (lastOf bs) 0
 
 -- 23: the fifth is above 15
 abbrev pub fifthAbove : List ℕ → Bool
-fifthAbove bs = eqb (length bs) 5 && ltb 15 (lastOf bs)
+fifthAbove bs = eqb (length bs) 5 && ltb fifthMost (lastOf bs)
 
 -- the seven bits of each byte, lowest group first
 unfoldable pub valueOf : List ℕ → ℕ
 valueOf [] = 0
-valueOf (b ∷ bs) = b % 128 + 128 * valueOf bs
+valueOf (b ∷ bs) = b % groupSize + groupSize * valueOf bs
 
 -- what the bytes taken from place at on give
 unfoldable pub numberOf : ℕ → List ℕ → Number

@@ -18,6 +18,20 @@ pub enum Put {
     NoRoom,
 }
 
+// How many numbers a group of seven bits says, those below which two, three and four groups are enough, and the most that a fifth byte says.
+const GROUP: u32 = 128;
+
+const TWO_GROUPS: u32 = GROUP * GROUP;
+
+const THREE_GROUPS: u32 = GROUP * TWO_GROUPS;
+
+const FOUR_GROUPS: u32 = GROUP * THREE_GROUPS;
+
+const FIFTH_MOST: u8 = 15;
+
+// The first byte that says that another follows.
+const MORE: u8 = GROUP as u8;
+
 // Reads what is left of a number, `left` + 1 bytes at most: the last that may come, its fifth, holds only four bits.
 fn read_groups(s: &[u8], at: usize, left: u32) -> Number
     requires { ⌜ left ≤ 4 ⌝ }
@@ -28,12 +42,12 @@ fn read_groups(s: &[u8], at: usize, left: u32) -> Number
     }
     let b = s[at];
     if left == 0 {
-        if 15 < b {
+        if FIFTH_MOST < b {
             return Number::Refused(23);
         }
         return Number::Is(b as u32, at + 1);
     }
-    if b < 128 {
+    if b < MORE {
         return Number::Is(b as u32, at + 1);
     }
     match read_groups(s, at + 1, left - 1) {
@@ -42,7 +56,7 @@ fn read_groups(s: &[u8], at: usize, left: u32) -> Number
             if m == 0 {
                 Number::Refused(22)
             } else {
-                Number::Is((b % 128) as u32 + 128 * m, next)
+                Number::Is((b % MORE) as u32 + GROUP * m, next)
             }
         }
     }
@@ -59,13 +73,13 @@ pub fn read_number(s: &[u8], at: usize) -> Number
 pub fn number_length(n: u32) -> usize
     ensures { λ r. ⌜ r ≡ length (numberBytes n) ⌝ }
 {
-    if n < 128 {
+    if n < GROUP {
         1
-    } else if n < 16384 {
+    } else if n < TWO_GROUPS {
         2
-    } else if n < 2097152 {
+    } else if n < THREE_GROUPS {
         3
-    } else if n < 268435456 {
+    } else if n < FOUR_GROUPS {
         4
     } else {
         5
@@ -79,9 +93,9 @@ fn write_groups(buf: &mut [u8], at: usize, n: u32) -> Put
 {
     let mut i = at;
     let mut m = n;
-    while m >= 128 {
-        buf[i] = (128 + m % 128) as u8;
-        m = m / 128;
+    while m >= GROUP {
+        buf[i] = (GROUP + m % GROUP) as u8;
+        m = m / GROUP;
         i += 1;
     }
     buf[i] = m as u8;

@@ -1,5 +1,5 @@
 -- What the judge keeps of a record's operations, by entry number: kinds, cells, values (as the numbers they are written as) and starts.
-use Prim.Native.Nat.{ℕ, _<_}
+use Prim.Native.Nat.{ℕ, _+_, _<_}
 use mathlib.Core.Path.{_≡_}
 use mathlib.Core.Logic.{_⊎_}
 use mathlib.Core.List.{List}
@@ -9,13 +9,13 @@ use lib.Dec.{T}
 use Rattle.number.specs.Value.{alternatingOf}
 use Rattle.record.specs.declared.Entry.{Entry}
 use Rattle.record.specs.declared.Answer.{Answer}
-use Rattle.record.specs.Record.{entries, bytesHeld, surveyOf}
+use Rattle.record.specs.Record.{longestRecord, entries, bytesHeld, surveyOf}
 use Rattle.law.specs.Operation.{Op, operations}
 use Rattle.law.specs.Order.{In}
 
--- the most bytes that 2,048 entries take, 8 each, and one more
-abbrev pub byteLimit : ℕ
-byteLimit = 16385
+-- so many bytes decide: those of the longest record, and one more
+abbrev pub decidingBytes : ℕ
+decidingBytes = longestRecord + 1
 
 -- entry p starts x: 0 a read, 1 a write with its value
 pub record StartsAt (kinds cells values starts : List ℕ) (x : Op) (p : ℕ) : Type 0 where

@@ -1,4 +1,4 @@
--- The code's sets have sixteen bits: what the definitions say of a replica number below sixteen, and of one that is not.
+-- The code's sets have so many bits: what the definitions say of a replica that has one, and of one that has none.
 use Prim.Native.Nat.{ℕ, _-_, _*_, _%_, _^_, _≤_, _<_, min}
 use mathlib.Core.Path.{_≡_, sym, _∙_}
 use mathlib.Core.Bool.{true, false}
@@ -12,49 +12,48 @@ use Rattle.slots.specs.laws.Bits.{trailing-lt, trailing-room}
 use Rattle.quorum.specs.Sets.{setBits, hasReplica, withReplica, everyReplica, within, withoutReplica, lowestOf, restOf}
 use Rattle.quorum.specs.laws.SetLaws.{has-beyond, has-below, with-beyond, bit-at-most}
 
-pub one-shl : (k : ℕ) → k < 16 → 1 * 2 ^ k % 65536 ≡ 2 ^ k
-one-shl k h = shl-exact {a = 1} 1 k 16 (omega arith) (omega arith) ∙ one-mul _
+pub one-shl : (k : ℕ) → k < setBits → 1 * 2 ^ k % 2 ^ setBits ≡ 2 ^ k
+one-shl k h = shl-exact {a = 1} 1 k setBits (omega arith) (omega arith) ∙ one-mul _
 
-pub has-no-bit : (s k : ℕ) → s < 65536 → 16 ≤ k → false ≡ hasReplica s k
-has-no-bit s k h l = sym (has-beyond 16 s k h l)
+pub has-no-bit : (s k : ℕ) → s < 2 ^ setBits → setBits ≤ k → false ≡ hasReplica s k
+has-no-bit s k h l = sym (has-beyond setBits s k h l)
 
-pub with-no-bit : (s k : ℕ) → 16 ≤ k → s ≡ withReplica s k
-unfolding setBits
+pub with-no-bit : (s k : ℕ) → setBits ≤ k → s ≡ withReplica s k
 with-no-bit s k l = sym (with-beyond s k l)
 
-pub with-bit : (s k : ℕ) → k < 16 → bitOr s (1 * 2 ^ k % 65536) ≡ withReplica s k
-unfolding withReplica setBits
-with-bit s k l = rw (one-shl k l, lt-ltb k 16 l)
+pub with-bit : (s k : ℕ) → k < setBits → bitOr s (1 * 2 ^ k % 2 ^ setBits) ≡ withReplica s k
+unfolding withReplica
+with-bit s k l = rw (one-shl k l, lt-ltb k setBits l)
 
-pub every-sixteen : (n : ℕ) → 16 ≤ n → 65535 ≡ everyReplica n
-unfolding everyReplica setBits
-every-sixteen n l = let e : min n 16 ≡ 16 = omega arith in rw e
+pub every-more : (n : ℕ) → setBits ≤ n → 2 ^ setBits - 1 ≡ everyReplica n
+unfolding everyReplica
+every-more n l = let e : min n setBits ≡ setBits = omega arith in rw e
 
-pub every-fewer : (n : ℕ) → n < 16 → 1 * 2 ^ n % 65536 - 1 ≡ everyReplica n
-unfolding everyReplica setBits
-every-fewer n l = let e : min n 16 ≡ n = omega arith in rw (one-shl n l, e)
+pub every-fewer : (n : ℕ) → n < setBits → 1 * 2 ^ n % 2 ^ setBits - 1 ≡ everyReplica n
+unfolding everyReplica
+every-fewer n l = let e : min n setBits ≡ n = omega arith in rw (one-shl n l, e)
 
-pub shl-pos : (n : ℕ) → n < 16 → 1 ≤ 1 * 2 ^ n % 65536
+pub shl-pos : (n : ℕ) → n < setBits → 1 ≤ 1 * 2 ^ n % 2 ^ setBits
 shl-pos n l = rw (one-shl n l) (pow-pos n)
 
-pub within-sixteen : (n s : ℕ) → s < 65536 → 16 ≤ n → true ≡ within n s
+pub within-more : (n s : ℕ) → s < 2 ^ setBits → setBits ≤ n → true ≡ within n s
 unfolding within
-within-sixteen n s h l = sym (lt-ltb s (2 ^ n) (omega (arith, pow-mono l)))
+within-more n s h l = sym (lt-ltb s (2 ^ n) (omega (arith, pow-mono l)))
 
-pub within-fewer : (n s : ℕ) → n < 16 → ltb s (1 * 2 ^ n % 65536) ≡ within n s
+pub within-fewer : (n s : ℕ) → n < setBits → ltb s (1 * 2 ^ n % 2 ^ setBits) ≡ within n s
 unfolding within
 within-fewer n s l = rw (one-shl n l)
 
--- a member of sixteen bits has its bit there
-pub has-sixteen : (s k : ℕ) → s < 65536 → hasReplica s k ≡ true → k < 16
-has-sixteen s k h e = has-below 16 s k h e
+-- a member has its bit there
+pub has-low : (s k : ℕ) → s < 2 ^ setBits → hasReplica s k ≡ true → k < setBits
+has-low s k h e = has-below setBits s k h e
 
-pub bit-fits : (s k : ℕ) → s < 65536 → hasReplica s k ≡ true → 1 * 2 ^ k % 65536 ≤ s
-bit-fits s k h e = rw (one-shl k (has-sixteen s k h e)) (bit-at-most s k e)
+pub bit-fits : (s k : ℕ) → s < 2 ^ setBits → hasReplica s k ≡ true → 1 * 2 ^ k % 2 ^ setBits ≤ s
+bit-fits s k h e = rw (one-shl k (has-low s k h e)) (bit-at-most s k e)
 
-pub without-bit : (s k : ℕ) → s < 65536 → hasReplica s k ≡ true → s - 1 * 2 ^ k % 65536 ≡ withoutReplica s k
+pub without-bit : (s k : ℕ) → s < 2 ^ setBits → hasReplica s k ≡ true → s - 1 * 2 ^ k % 2 ^ setBits ≡ withoutReplica s k
 unfolding withoutReplica
-without-bit s k h e = rw (one-shl k (has-sixteen s k h e), e)
+without-bit s k h e = rw (one-shl k (has-low s k h e), e)
 
 pub without-none : (s k : ℕ) → hasReplica s k ≡ false → s ≡ withoutReplica s k
 unfolding withoutReplica
@@ -64,18 +63,18 @@ pub rest-none : (s : ℕ) → s ≡ 0 → 0 ≡ restOf s
 unfolding restOf
 rest-none s e = omega arith
 
-module _ (s k : ℕ) (h : s < 65536) (some : s ≡ 0 → ⊥) (e : k ≡ lowestOf s) where
+module _ (s k : ℕ) (h : s < 2 ^ setBits) (some : s ≡ 0 → ⊥) (e : k ≡ lowestOf s) where
   positive : 0 < s
   positive = omega (arith, some)
 
-  pub lowest-sixteen : k < 16
-  unfolding lowestOf setBits
-  lowest-sixteen = omega (arith, e, trailing-lt 16 s h positive)
+  pub lowest-low : k < setBits
+  unfolding lowestOf
+  lowest-low = omega (arith, e, trailing-lt setBits s h positive)
 
-  pub rest-room : 1 * 2 ^ k % 65536 ≤ s
-  unfolding lowestOf setBits
-  rest-room = rw (one-shl k lowest-sixteen, e) (trailing-room 16 s positive)
+  pub rest-room : 1 * 2 ^ k % 2 ^ setBits ≤ s
+  unfolding lowestOf
+  rest-room = rw (one-shl k lowest-low, e) (trailing-room setBits s positive)
 
-  pub rest-is : s - 1 * 2 ^ k % 65536 ≡ restOf s
+  pub rest-is : s - 1 * 2 ^ k % 2 ^ setBits ≡ restOf s
   unfolding restOf
-  rest-is = rw (one-shl k lowest-sixteen, e)
+  rest-is = rw (one-shl k lowest-low, e)

@@ -1,2 +1,2 @@
--- Laws: what the sixteen bits of the code's sets are in the definitions.
+-- Laws: what the bits of the code's sets are in the definitions.
 mod Laws

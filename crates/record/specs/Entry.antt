@@ -28,6 +28,10 @@ cellLimit = 16
 abbrev pub lastCell : ℕ
 lastCell = cellLimit - 1
 
+-- an entry takes at most 8 bytes: one each for kind, client and cell, five for a value
+abbrev pub longestEntry : ℕ
+longestEntry = 8
+
 -- 0 read asked (client, cell); 1 write asked (client, cell, value); 2 told (client, value); 3 done (client)
 unfoldable pub entryBytes : Entry → List ℕ
 entryBytes (ReadAsked client cell) = numberBytes 0 ++ (numberBytes (client .0) ++ numberBytes (cell .0))
@@ -40,7 +44,7 @@ unfoldable pub upTo : ℕ → ℕ → Number → Number
 upTo limit refusal (Refused k) = Refused k
 upTo limit refusal (Is n next) = cond (ltb limit n) (Refused refusal) (Is n next)
 
--- the fields after kind and client; 25: cell above 15
+-- the fields after kind and client; 25: cell above the last
 unfoldable pub fieldsAt : List ℕ → ℕ → ℕ → ℕ → Found
 fieldsAt s at kind client =
     cond (eqb kind 3) (At (Done (record { 0 = client })) at)
@@ -49,7 +53,7 @@ fieldsAt s at kind client =
     cond (eqb kind 0) (At (ReadAsked (record { 0 = client }) (record { 0 = cell })) next)
     (andThen Fault (numberAt s next) (λ v last. At (WriteAsked (record { 0 = client }) (record { 0 = cell }) (signedOf v)) last)))))
 
--- what reading an entry at place at of s gives; 24: kind above 3; 25: client above 7
+-- what reading an entry at place at of s gives; 24: kind above 3; 25: client above the last
 unfoldable pub entryAt : List ℕ → ℕ → Found
 entryAt s at =
     andThen Fault (upTo 3 24 (numberAt s at)) (λ kind next.

@@ -1,8 +1,8 @@
 -- The record: its entries one after another, and what its bytes hold. The paper: "The record and its bytes".
-use Prim.Native.Nat.{ℕ, zero, suc, _+_}
+use Prim.Native.Nat.{ℕ, zero, suc, _+_, _*_}
 use mathlib.Core.List.{List, [], _∷_, _++_}
 use mathlib.Core.Bool.{Bool, cond}
-use lib.ListN.{length, getD, set}
+use lib.ListN.{length, getD, set, replicate}
 use lib.Dec.{ltb, eqb}
 use Rattle.record.specs.declared.Client.{Client}
 use Rattle.record.specs.declared.Entry.{Entry}
@@ -12,15 +12,19 @@ use Rattle.record.specs.declared.Found.the-variants.{At, Fault}
 use Rattle.record.specs.declared.Standing.{Standing}
 use Rattle.record.specs.declared.Answer.{Answer}
 use Rattle.record.specs.declared.Answer.the-variants.{All, Refused}
-use Rattle.record.specs.Entry.{entryBytes, entryAt}
+use Rattle.record.specs.Entry.{clientLimit, longestEntry, entryBytes, entryAt}
 
 -- the record holds at most 2,048 entries
 abbrev pub entryLimit : ℕ
 entryLimit = 2048
 
+-- so many bytes at most
+abbrev pub longestRecord : ℕ
+longestRecord = longestEntry * entryLimit
+
 -- before the first entry no client has an operation open
 abbrev pub fresh : Standing
-fresh = record { has = 0 ∷ 0 ∷ 0 ∷ 0 ∷ 0 ∷ 0 ∷ 0 ∷ 0 ∷ [] }
+fresh = record { has = replicate clientLimit 0 }
 
 -- what a client has open: nothing is 0, a read 1, a write 2
 abbrev pub openBy : Standing → Client → ℕ

@@ -59,6 +59,11 @@ pub enum Answer {
 // The most entries that a record holds.
 pub const ENTRY_LIMIT: usize = 2048;
 
+// The most bytes that an entry takes, one each for kind, client and cell and five for a value, and that a record takes.
+pub const LONGEST_ENTRY: usize = 8;
+
+pub const LONGEST_RECORD: usize = LONGEST_ENTRY * ENTRY_LIMIT;
+
 // What a client has open. The array is a parameter, so that its length is known.
 fn open_by(has: [u8; Client::LIMIT], client: Client) -> u8
     ensures { λ r. ⌜ r ≡ getD has (client .0) 0 ⌝ }

@@ -1,4 +1,4 @@
--- The line of each verdict, and that 64 bytes take it whole.
+-- The line of each verdict, and that there is room for it whole.
 use Prim.Native.Nat.{ℕ, _≤_}
 use mathlib.Core.Path.{_≡_}
 use mathlib.Core.List.{List}
@@ -11,7 +11,7 @@ use Rattle.verdict.specs.declared.Verdict.the-variants.{Lawful, Unlawful, Refus
 use Rattle.text.specs.Text.{field, refusedWord, lineFeed, Printed}
 use Rattle.text.specs.laws.Printing.{join}
 use Rattle.text.specs.laws.Length.{digits-few}
-use Rattle.report.specs.Line.{lawfulLine, unlawfulWords, entryWords, lineOf}
+use Rattle.report.specs.Line.{lineRoom, lawfulLine, unlawfulWords, entryWords, lineOf}
 
 -- the line of each verdict, part by part
 module _ {l : List ℕ} (v : Verdict) {r : ℕ} {after : List ℕ} where
@@ -36,7 +36,7 @@ line-few Lawful = omega arith
 line-few (Unlawful cell) = simp length-append (omega (arith, digits-few 20 (cell .0) .few))
 line-few (Refused number entry) = simp length-append (omega (arith, digits-few 20 number .few, digits-few 20 entry .few))
 
--- so 64 take it whole
-pub whole : (l : List ℕ) (v : Verdict) (r : ℕ) (after : List ℕ) → length l ≡ 64 → Printed l 0 (lineOf v) r after → Wrote l 0 (lineOf v) r after × (r ≤ 64)
+-- so it is written whole where there is room for every line
+pub whole : (l : List ℕ) (v : Verdict) (r : ℕ) (after : List ℕ) → length l ≡ lineRoom → Printed l 0 (lineOf v) r after → Wrote l 0 (lineOf v) r after × (r ≤ lineRoom)
 whole l v r after h w = let few = line-few v in
     (record { place = omega (arith, w .place); list = w .list }, omega (arith, w .place))

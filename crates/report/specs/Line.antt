@@ -5,6 +5,10 @@ use Rattle.text.specs.Text.{field, refusedWord, lineFeed}
 use Rattle.verdict.specs.declared.Verdict.{Verdict}
 use Rattle.verdict.specs.declared.Verdict.the-variants.{Lawful, Unlawful, Refused}
 
+-- so many bytes have room for every line
+abbrev pub lineRoom : ℕ
+lineRoom = 64
+
 -- "lawful" and a line feed
 abbrev pub lawfulLine : List ℕ
 lawfulLine = 108 ∷ 97 ∷ 119 ∷ 102 ∷ 117 ∷ 108 ∷ 10 ∷ []

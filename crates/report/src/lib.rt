@@ -2,8 +2,11 @@
 ghost use Prim.Native.Nat.{_≤_};
 ghost use Rattle.number.specs.Wrote.{Wrote};
 ghost use Rattle.text.specs.Text.{Printed};
-ghost use Rattle.report.specs.Line.{lineOf};
+ghost use Rattle.report.specs.Line.{lineRoom, lineOf};
 use verdict::Verdict;
+
+// So many bytes have room for every line.
+pub const LINE_ROOM: usize = 64;
 
 // The line of a verdict, as far as the lent bytes go.
 fn put_line(v: Verdict, out: &mut [u8]) -> usize
@@ -24,8 +27,8 @@ fn put_line(v: Verdict, out: &mut [u8]) -> usize
 }
 
 // The line of a verdict at the front of `out`, and how many bytes it has. No line has more than 59.
-pub fn report(v: Verdict, out: &mut [u8; 64]) -> usize
-    ensures { λ r. ⌜ Wrote (now (out .entry)) 0 (lineOf v) r (now (out .exit)) × (r ≤ 64) ⌝ }
+pub fn report(v: Verdict, out: &mut [u8; LINE_ROOM]) -> usize
+    ensures { λ r. ⌜ Wrote (now (out .entry)) 0 (lineOf v) r (now (out .exit)) × (r ≤ lineRoom) ⌝ }
 {
     put_line(v, out)
 }

@@ -10,7 +10,7 @@ use Rattle.record.specs.declared.Entry.{Entry}
 use Rattle.record.specs.declared.Found.the-variants.{At, Fault}
 use Rattle.record.specs.declared.Answer.the-variants.{All, Refused}
 use Rattle.record.specs.Entry.{entryAt}
-use Rattle.record.specs.Record.{fresh, bytesHeld, Held, entries, fault, surveyOf}
+use Rattle.record.specs.Record.{entryLimit, fresh, bytesHeld, Held, entries, fault, surveyOf}
 use Rattle.rows.specs.Row.{rowOf}
 use Rattle.rows.specs.Rows.{rowsOf, refused, readInto, readOutcome, Outcome}
 use Rattle.rows.specs.laws.RowLaws.{row-length, rows-length}
@@ -30,7 +30,7 @@ fills s rows n w = record {
   all = w .all;
   held = w .held;
   fits = w .room;
-  going = record { left = 2048; n = 0; st = fresh; rest = w .all; held = w .held; same = refl; room = omega (arith, w .room); long = refl };
+  going = record { left = entryLimit; n = 0; st = fresh; rest = w .all; held = w .held; same = refl; room = omega (arith, w .room); long = refl };
   count = omega (arith, w .count);
 }
 

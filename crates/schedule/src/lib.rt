@@ -28,6 +28,7 @@ use method::Note;
 use method::Sight;
 use plan::plan;
 use quorum::Quorums;
+use quorum::Set;
 use rack::Line;
 use rack::Rack;
 use rack::Ran;
@@ -92,7 +93,7 @@ fn slot_after(clear: bool, slot: Slot) -> Slot
 }
 
 // How many slots are free after the event's was cleared and a message went to each replica of a set.
-fn room_after(room: usize, clear: bool, to: u16) -> usize
+fn room_after(room: usize, clear: bool, to: Set) -> usize
     requires { ⌜ (ones to ≤ room + freed clear) × (room ≤ slotLimit) ⌝ }
     ensures { λ r. ⌜ r ≡ room + freed clear - ones to ⌝ }
 {

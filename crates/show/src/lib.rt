@@ -24,6 +24,7 @@ use method::Party;
 use method::Phase;
 use method::Work;
 use number::Put;
+use quorum::Set;
 use rack::Line;
 use rack::Rack;
 use rack::Ran;
@@ -156,7 +157,7 @@ fn put_goal(out: &mut [u8], at: usize, goal: Goal) -> usize
     }
 }
 
-fn put_member(out: &mut [u8], at: usize, set: u16, k: Replica) -> usize
+fn put_member(out: &mut [u8], at: usize, set: Set, k: Replica) -> usize
     ensures { λ r. ⌜ Printed (now (out .entry)) at (memberText set (k .0)) r (now (out .exit)) ⌝ }
 {
     if quorum::has(set, k) {
@@ -166,7 +167,7 @@ fn put_member(out: &mut [u8], at: usize, set: u16, k: Replica) -> usize
 }
 
 // Each replica of a set, or that there is none.
-fn put_members(out: &mut [u8], at: usize, set: u16) -> usize
+fn put_members(out: &mut [u8], at: usize, set: Set) -> usize
     ensures { λ r. ⌜ Printed (now (out .entry)) at (membersText set) r (now (out .exit)) ⌝ }
 {
     if set == 0 {
@@ -182,7 +183,7 @@ fn put_members(out: &mut [u8], at: usize, set: u16) -> usize
 }
 
 // What an open operation is for, and who has answered.
-fn put_open(out: &mut [u8], at: usize, op: u16, cell: Cell, goal: Goal, set: u16) -> usize
+fn put_open(out: &mut [u8], at: usize, op: u16, cell: Cell, goal: Goal, set: Set) -> usize
     ensures { λ r. ⌜ Printed (now (out .entry)) at (openText op (cell .0) goal set) r (now (out .exit)) ⌝ }
 {
     let a = put_goal(out, at, goal);
@@ -328,7 +329,7 @@ fn put_pairs(out: &mut [u8], at: usize, pairs: [Pair; Rack::PAIRS], k: Replica, 
     next
 }
 
-fn put_power(out: &mut [u8], at: usize, power: u16, k: Replica) -> usize
+fn put_power(out: &mut [u8], at: usize, power: Set, k: Replica) -> usize
     ensures { λ r. ⌜ Printed (now (out .entry)) at (powerText (hasReplica power (k .0))) r (now (out .exit)) ⌝ }
 {
     if quorum::has(power, k) {

@@ -9,23 +9,23 @@ use lib.ListN.{getD, set}
 use lib.Bits.{bitOr}
 use lib.Count.{ones, trailingZeros}
 use lib.Pow.{shl-exact}
-use Rattle.slots.specs.Free.{mapWords, slotCount, firstFree, countFrom, givenAt, markedAt}
+use Rattle.slots.specs.Free.{wordBits, mapWords, slotCount, firstFree, countFrom, givenAt, markedAt}
 use Rattle.slots.specs.Words.{Maps, Took}
 use Rattle.slots.specs.laws.Finding.{Passed, Here, here-of, pass-all, tied-taken, tied-given, taken-past, count-word}
 
-pub one-shl : (k : ℕ) → k < 64 → 1 * 2 ^ k % 18446744073709551616 ≡ 2 ^ k
-one-shl k h = shl-exact {a = 1} 1 k 64 (omega arith) (omega arith) ∙ one-mul _
+pub one-shl : (k : ℕ) → k < wordBits → 1 * 2 ^ k % 2 ^ wordBits ≡ 2 ^ k
+one-shl k h = shl-exact {a = 1} 1 k wordBits (omega arith) (omega arith) ∙ one-mul _
 
 -- bit k of word j is the lowest of the first word that is not 0
 module _ (f : ℕ → Bool) (ws : List ℕ) (j k : ℕ) (t : Maps f ws) (p : Passed mapWords f j) (h : j < mapWords) (n : 0 < getD ws j 0)
-    (e : k ≡ trailingZeros 64 (getD ws j 0)) where
+    (e : k ≡ trailingZeros wordBits (getD ws j 0)) where
   here : Here mapWords f j k
   here = rw e (here-of mapWords f ws j t p h (λ z. omega arith))
 
-  pub found-here : 64 * j + k ≡ firstFree f
+  pub found-here : wordBits * j + k ≡ firstFree f
   found-here = here .first
 
-  pub took-here : (y : ℕ) → y ≡ getD ws j 0 - 2 ^ trailingZeros 64 (getD ws j 0) → Took f (set ws j y) (64 * j + k)
+  pub took-here : (y : ℕ) → y ≡ getD ws j 0 - 2 ^ trailingZeros wordBits (getD ws j 0) → Took f (set ws j y) (wordBits * j + k)
   took-here y q = record { slot = here .first; left = rw (q, ← e) (tied-taken mapWords f ws j k t h (here .small) (here .free)) }
 
 -- every word is 0
@@ -36,14 +36,14 @@ pub took-nothing : (f : ℕ → Bool) (ws : List ℕ) (j : ℕ) → Maps f ws �
 took-nothing f ws j t p h = record { slot = found-none f j p h; left = taken-past mapWords f ws slotCount (omega arith) t }
 
 pub gave : (f : ℕ → Bool) (ws : List ℕ) (i : ℕ) → i < slotCount → Maps f ws
-    → Maps (givenAt f i) (set ws (i / 64) (bitOr (getD ws (i / 64) 0) (1 * 2 ^ (i % 64) % 18446744073709551616)))
+    → Maps (givenAt f i) (set ws (i / wordBits) (bitOr (getD ws (i / wordBits) 0) (1 * 2 ^ (i % wordBits) % 2 ^ wordBits)))
 gave f ws i h t =
-    let q : 64 * (i / 64) + i % 64 ≡ i = omega arith in
-    let g = tied-given mapWords f ws (i / 64) (i % 64) t (omega arith) (omega arith) in
-    rw (one-shl (i % 64) (omega arith)) (rw q at g)
+    let q : wordBits * (i / wordBits) + i % wordBits ≡ i = omega arith in
+    let g = tied-given mapWords f ws (i / wordBits) (i % wordBits) t (omega arith) (omega arith) in
+    rw (one-shl (i % wordBits) (omega arith)) (rw q at g)
 
-pub counted : (f : ℕ → Bool) (ws : List ℕ) (j n m : ℕ) → Maps f ws → j < mapWords → n ≡ countFrom (64 * j) 0 f → m ≡ ones (getD ws j 0)
-    → n + m ≡ countFrom (64 * (j + 1)) 0 f
+pub counted : (f : ℕ → Bool) (ws : List ℕ) (j n m : ℕ) → Maps f ws → j < mapWords → n ≡ countFrom (wordBits * j) 0 f → m ≡ ones (getD ws j 0)
+    → n + m ≡ countFrom (wordBits * (j + 1)) 0 f
 counted f ws j n m t h e q = omega (arith, count-word mapWords f ws j t h)
 
 -- a slot marked
@@ -56,6 +56,6 @@ marked-no f ws i true e t = absurd (let z : _≡_ {A = ℕ} 0 1 = cc in omega ar
 marked-no f ws i false e t = t
 
 -- no slot is counted yet
-pub count-none : (f : ℕ → Bool) → 0 ≡ countFrom (64 * 0) 0 f
+pub count-none : (f : ℕ → Bool) → 0 ≡ countFrom (wordBits * 0) 0 f
 unfolding countFrom
 count-none f = refl

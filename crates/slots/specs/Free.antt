@@ -4,13 +4,17 @@ use Prim.Native.Nat.{ℕ, zero, suc, _+_, _*_}
 use mathlib.Core.Bool.{Bool, true, false, cond}
 use lib.Dec.{eqb}
 
--- how many words of 64 bits say which slots are free
+-- how many bits a word has
+abbrev pub wordBits : ℕ
+wordBits = 64
+
+-- how many words say which slots are free
 abbrev pub mapWords : ℕ
 mapWords = 4
 
--- how many slots the wire has: 256
+-- how many slots the wire has: one for each bit of the words
 abbrev pub slotCount : ℕ
-slotCount = 64 * mapWords
+slotCount = wordBits * mapWords
 
 -- 1 for a slot that is free
 abbrev pub digit : Bool → ℕ

@@ -3,7 +3,7 @@ ghost use mathlib.Core.Path.{_≡_};
 ghost use mathlib.Core.Bool.{Bool};
 ghost use Prim.Native.Nat.{ℕ, _-_, _^_, _<_, _≤_};
 ghost use lib.Count.{ones, trailingZeros};
-ghost use Rattle.slots.specs.Free.{slotCount, firstFree, countFree, givenAt, markedAt};
+ghost use Rattle.slots.specs.Free.{wordBits, slotCount, firstFree, countFree, givenAt, markedAt};
 ghost use Rattle.slots.specs.Words.{Maps, Took};
 
 // How many words there are, how many bits a word has, and how many slots there are: one for each bit.
@@ -16,7 +16,7 @@ pub const SLOTS: usize = BITS * WORDS;
 // The lowest bit of x that is set.
 fn low(x: u64) -> usize
     requires { ⌜ 0 < x ⌝ }
-    ensures { λ r. ⌜ (r ≡ trailingZeros 64 x) × (r < 64) ⌝ }
+    ensures { λ r. ⌜ (r ≡ trailingZeros wordBits x) × (r < wordBits) ⌝ }
 {
     u64::trailing_zeros(x) as usize
 }
@@ -24,7 +24,7 @@ fn low(x: u64) -> usize
 // x without that bit.
 fn rest(x: u64) -> u64
     requires { ⌜ 0 < x ⌝ }
-    ensures { λ r. ⌜ r ≡ x - 2 ^ trailingZeros 64 x ⌝ }
+    ensures { λ r. ⌜ r ≡ x - 2 ^ trailingZeros wordBits x ⌝ }
 {
     let k = low(x);
     x - (1u64 << k)
@@ -32,12 +32,12 @@ fn rest(x: u64) -> u64
 
 // How many bits of x are set.
 fn bits(x: u64) -> usize
-    ensures { λ r. ⌜ (r ≡ ones x) × (r ≤ 64) ⌝ }
+    ensures { λ r. ⌜ (r ≡ ones x) × (r ≤ wordBits) ⌝ }
 {
     u64::count_ones(x) as usize
 }
 
-// The lowest free slot; 256 where none is free.
+// The lowest free slot; as many as there are where none is free.
 pub fn lowest(free: &[u64; WORDS]) -> usize
     ensures { λ r. ⌜ (r ≤ slotCount) × ((f : ℕ → Bool) → Maps f (now (free .entry)) → r ≡ firstFree f) ⌝ }
 {
@@ -52,7 +52,7 @@ pub fn lowest(free: &[u64; WORDS]) -> usize
     SLOTS
 }
 
-// The lowest free slot, which is then taken; 256 where none is free, and nothing changes.
+// The lowest free slot, which is then taken; as many as there are where none is free, and nothing changes.
 pub fn take(free: &mut [u64; WORDS]) -> usize
     ensures { λ r. ⌜ (r ≤ slotCount) × ((f : ℕ → Bool) → Maps f (now (free .entry)) → Took f (now (free .exit)) r) ⌝ }
 {

@@ -16,6 +16,7 @@ use method::Operation;
 use method::Phase;
 use method::Work;
 use quorum::Quorums;
+use quorum::Set;
 use rack::Rack;
 use rack::Settings;
 use rack::maker::sizes_in;
@@ -82,7 +83,7 @@ fn held_fits(settings: Settings, held: InSlot) -> bool
 }
 
 // In the ask phase nothing is held while nobody has told, and then a pair that names a rank that the rack has.
-fn holding_fits(settings: Settings, set: u16, held: Holding) -> bool
+fn holding_fits(settings: Settings, set: Set, held: Holding) -> bool
     ensures { λ r. ⌜ r ≡ holdingFits settings set held ⌝ }
 {
     match held {
@@ -106,7 +107,7 @@ fn quorums_of(settings: Settings) -> Quorums
 }
 
 // What is held fits, and the set isn't enough to end the phase.
-fn phase_fits(settings: Settings, set: u16, phase: Phase) -> bool
+fn phase_fits(settings: Settings, set: Set, phase: Phase) -> bool
     ensures { λ r. ⌜ r ≡ phaseFits settings set phase ⌝ }
 {
     let quorums = quorums_of(settings);

@@ -34,13 +34,17 @@ unfoldable pub valueText : ℤ → List ℕ
 valueText (pos n) = decimal n
 valueText (negsuc n) = 45 ∷ decimal (n + 1)
 
--- the digit of a number below 16: "0" to "9", "A" to "F"
+-- a hex digit says one of 16 numbers
+abbrev pub hexBase : ℕ
+hexBase = 16
+
+-- the digit of a number below that: "0" to "9", "A" to "F"
 unfoldable pub hexDigit : ℕ → ℕ
 hexDigit n = cond (ltb n 10) (48 + n) (55 + n)
 
 -- a byte in two upper-case hex digits, with a space before it
 abbrev pub hexByte : ℕ → List ℕ
-hexByte b = 32 ∷ hexDigit (b / 16) ∷ hexDigit (b % 16) ∷ []
+hexByte b = 32 ∷ hexDigit (b / hexBase) ∷ hexDigit (b % hexBase) ∷ []
 
 -- the same of each byte
 unfoldable pub hexText : List ℕ → List ℕ

@@ -2,7 +2,7 @@
 ghost use mathlib.Core.Path.{_≡_};
 ghost use mathlib.Core.List.{[], _∷_};
 ghost use Prim.Native.Nat.{_<_};
-ghost use Rattle.text.specs.Text.{digitsOf, decimal, field, valueText, hexDigit, hexByte, hexText, Printed};
+ghost use Rattle.text.specs.Text.{hexBase, digitsOf, decimal, field, valueText, hexDigit, hexByte, hexText, Printed};
 
 // One byte.
 fn put_byte(out: &mut [u8], at: usize, b: u8) -> usize
@@ -68,9 +68,12 @@ pub fn put_value(out: &mut [u8], at: usize, v: i32) -> usize
     put_field(out, at, b"-", n / 2 + 1)
 }
 
-// The digit of a number below 16.
+// How many numbers a hex digit says.
+const HEX: u8 = 16;
+
+// The digit of a number below that.
 fn hex_digit(n: u8) -> u8
-    requires { ⌜ n < 16 ⌝ }
+    requires { ⌜ n < hexBase ⌝ }
     ensures { λ r. ⌜ r ≡ hexDigit n ⌝ }
 {
     if n < 10 { 48 + n } else { 55 + n }
@@ -80,7 +83,7 @@ fn hex_digit(n: u8) -> u8
 fn put_hex_byte(out: &mut [u8], at: usize, b: u8) -> usize
     ensures { λ r. ⌜ Printed (now (out .entry)) at (hexByte b) r (now (out .exit)) ⌝ }
 {
-    put_words(out, at, &[32, hex_digit(b / 16), hex_digit(b % 16)])
+    put_words(out, at, &[32, hex_digit(b / HEX), hex_digit(b % HEX)])
 }
 
 // Bytes, each in two digits and a space before it.

@@ -5,6 +5,8 @@ ghost use Prim.Native.Nat.{_+_, _<_, _≤_, min, max};
 ghost use lib.ListN.{length, getD, set};
 ghost use mathlib.Core.Bool.{cond};
 ghost use lib.Dec.{eqb};
+ghost use Rattle.record.specs.Record.{entryLimit};
+ghost use Rattle.record.specs.Entry.{cellLimit};
 ghost use Rattle.clusters.specs.laws.Arrays.{arrays, Fit, Ready, Taking, Tally, OwnNumbers, stopOf, markOf, Scattering, Scattered, Sweepable, Visited, Swept, LowestIn};
 ghost use Rattle.verdict.specs.Verdict.{takenFor, Judges};
 ghost use Rattle.verdict.specs.laws.Judging.{Settles, JudgesIn};
@@ -72,7 +74,7 @@ fn mark_of(least: u16, reach: u16, mark: u8) -> u8
 
 // Before any read a cluster's greatest start is its write's.
 fn own_numbers(n: usize, most: &mut [u16; ENTRY_LIMIT])
-    requires { ⌜ (n ≤ 2048) × (length (now most) ≡ 2048) ⌝ }
+    requires { ⌜ (n ≤ entryLimit) × (length (now most) ≡ entryLimit) ⌝ }
     ensures { λ r. ⌜ OwnNumbers n (now (most .exit)) ⌝ }
 {
     let mut i: usize = 0;
@@ -96,7 +98,7 @@ fn take_done(
     least: &mut [u16; ENTRY_LIMIT],
     p: usize,
 )
-    requires { ⌜ (p < 2048) × (getD (now starts) p 0 < 2048) ⌝ }
+    requires { ⌜ (p < entryLimit) × (getD (now starts) p 0 < entryLimit) ⌝ }
     ensures { λ r. ⌜ now (least .exit) ≡ set (now (least .entry)) (getD (now (starts .entry)) p 0)
         (min (getD (now (least .entry)) (getD (now (starts .entry)) p 0) 0) (stopOf (getD (now (kinds .entry)) p 0) p)) ⌝ }
 {
@@ -112,7 +114,7 @@ fn take_zero(
     zero: &mut [u16; Cell::LIMIT],
     p: usize,
 )
-    requires { ⌜ (p < 2048) × (getD (now cells) p 0 < 16) ⌝ }
+    requires { ⌜ (p < entryLimit) × (getD (now cells) p 0 < cellLimit) ⌝ }
     ensures { λ r. ⌜ now (zero .exit) ≡ set (now (zero .entry)) (getD (now (cells .entry)) p 0)
         (max (getD (now (zero .entry)) (getD (now (cells .entry)) p 0) 0) (getD (now (starts .entry)) p 0)) ⌝ }
 {
@@ -129,7 +131,7 @@ fn join(
     p: usize,
     w: usize,
 )
-    requires { ⌜ (p < 2048) × (w < 2048) ⌝ }
+    requires { ⌜ (p < entryLimit) × (w < entryLimit) ⌝ }
     ensures { λ r. ⌜ (now (least .exit) ≡ set (now (least .entry)) w (min (getD (now (least .entry)) w 0) p)) ×
         (now (most .exit) ≡ set (now (most .entry)) w (max (getD (now (most .entry)) w 0) (getD (now (starts .entry)) p 0))) ⌝ }
 {
@@ -141,7 +143,7 @@ fn join(
 
 // The cell of entry p has a read that gives what no write before its end asked.
 fn mark(cells: &[u8; ENTRY_LIMIT], bad: &mut [u8; Cell::LIMIT], p: usize)
-    requires { ⌜ (p < 2048) × (getD (now cells) p 0 < 16) ⌝ }
+    requires { ⌜ (p < entryLimit) × (getD (now cells) p 0 < cellLimit) ⌝ }
     ensures { λ r. ⌜ now (bad .exit) ≡ set (now (bad .entry)) (getD (now (cells .entry)) p 0) 1 ⌝ }
 {
     let c = wide_cell(cells[p]);
@@ -266,7 +268,7 @@ fn take_ends(
 
 // A write's place; beyond all places where the entry is no write. A select again.
 fn place_of(kind: u8, place: u16) -> u16
-    ensures { λ r. ⌜ r ≡ cond (eqb kind 1) place 2048 ⌝ }
+    ensures { λ r. ⌜ r ≡ cond (eqb kind 1) place entryLimit ⌝ }
 {
     if kind == 1 { place } else { BEYOND }
 }
@@ -324,7 +326,7 @@ fn meet(
     bad: &mut [u8; Cell::LIMIT],
     w: usize,
 )
-    requires { ⌜ (w < 2048) × (getD (now cells) w 0 < 16) ⌝ }
+    requires { ⌜ (w < entryLimit) × (getD (now cells) w 0 < cellLimit) ⌝ }
     ensures { λ r. ⌜ (now (reach .exit) ≡ set (now (reach .entry)) (getD (now (cells .entry)) w 0)
         (max (getD (now (reach .entry)) (getD (now (cells .entry)) w 0) 0) (getD (now (most .entry)) w 0))) ×
         (now (bad .exit) ≡ set (now (bad .entry)) (getD (now (cells .entry)) w 0)
@@ -375,7 +377,7 @@ fn sweep(
     reach: &mut [u16; Cell::LIMIT],
     bad: &mut [u8; Cell::LIMIT],
 )
-    requires { ⌜ Sweepable (arrays (now kinds) (now cells) (now values) (now starts)) n (now least) (now most) (now at) × (length (now reach) ≡ 16) × (length (now bad) ≡ 16) ⌝ }
+    requires { ⌜ Sweepable (arrays (now kinds) (now cells) (now values) (now starts)) n (now least) (now most) (now at) × (length (now reach) ≡ cellLimit) × (length (now bad) ≡ cellLimit) ⌝ }
     ensures { λ r. ⌜ Swept (arrays (now (kinds .entry)) (now (cells .entry)) (now (values .entry)) (now (starts .entry))) n (now (least .entry)) (now (most .entry))
         (now (reach .entry)) (now (bad .entry)) (now (bad .exit)) ⌝ }
 {
@@ -424,7 +426,7 @@ fn order(
     reach: &mut [u16; Cell::LIMIT],
     bad: &mut [u8; Cell::LIMIT],
 )
-    requires { ⌜ Scattering (arrays (now kinds) (now cells) (now values) (now starts)) n (now least) (now most) × (length (now reach) ≡ 16) × (length (now bad) ≡ 16) ⌝ }
+    requires { ⌜ Scattering (arrays (now kinds) (now cells) (now values) (now starts)) n (now least) (now most) × (length (now reach) ≡ cellLimit) × (length (now bad) ≡ cellLimit) ⌝ }
     ensures { λ r. ⌜ Swept (arrays (now (kinds .entry)) (now (cells .entry)) (now (values .entry)) (now (starts .entry))) n (now (least .entry)) (now (most .entry))
         (now (reach .entry)) (now (bad .entry)) (now (bad .exit)) ⌝ }
 {

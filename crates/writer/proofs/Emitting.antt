@@ -10,7 +10,7 @@ use Rattle.record.specs.declared.Entry.{Entry}
 use Rattle.record.specs.declared.Found.the-variants.{At, Fault}
 use Rattle.record.specs.declared.Answer.the-variants.{All, Refused}
 use Rattle.record.specs.Entry.{entryBytes}
-use Rattle.record.specs.Record.{fresh, Held, entries, fault, bytesOf}
+use Rattle.record.specs.Record.{entryLimit, fresh, Held, entries, fault, bytesOf}
 use Rattle.rows.specs.Row.{rowAt}
 use Rattle.rows.specs.Rows.{rowsHeld, refused, writeInto, writeOutcome, Outcome}
 use Rattle.rows.specs.laws.Storing.{measureOf, Writable, Going, Next, step, some-left, none-left, same-going, finish, stored-fits, stored-short}
@@ -30,7 +30,7 @@ emits rows bytes w = record {
   all = w .all;
   held = w .held;
   fits = w .room;
-  going = record { left = 2048; n = 0; st = fresh; rest = w .all; held = w .held; same = refl; room = omega (arith, w .room); long = refl };
+  going = record { left = entryLimit; n = 0; st = fresh; rest = w .all; held = w .held; same = refl; room = omega (arith, w .room); long = refl };
 }
 
 module _ (rows bytes₀ bytes : List ℕ) (n out : ℕ) (w : Emitting rows bytes₀ bytes n out) where

@@ -7,12 +7,13 @@ use native.Mathlib.Omega.{arith}
 use native.Mathlib.Decide.{decLt, ℕ-discrete}
 use lib.ListN.{getD, replicate, length-replicate, getD-replicate, List·getD-eq-default}
 use lib.Seq.{ext-getD}
+use Rattle.record.specs.Record.{entryLimit}
 use Rattle.chains.specs.declared.Linked.{Linked}
 use Rattle.chains.specs.declared.Linked.the-variants.{All as allLinked, Again as againAt}
 use Rattle.chains.specs.declared.Write.{Write}
 use Rattle.chains.specs.declared.Write.the-variants.{At, None}
 use Rattle.chains.specs.Chains.{Asks, Again, NoneAgain}
-use Rattle.chains.specs.Table.{Latest, Chained, Empty, Found, Stays, Linking, SameLink}
+use Rattle.chains.specs.Table.{chainCount, Latest, Chained, Empty, Found, Stays, Linking, SameLink}
 
 -- two numbers are equal, or one is less
 order : (p q : ℕ) → (p < q) ⊎ ((q < p) ⊎ (p ≡ q))
@@ -65,7 +66,7 @@ module _ {kinds cells values : List ℕ} where
 
   -- so the writes alone say what stands in the table
   pub one-table : {n : ℕ} {head next head′ next′ : List ℕ} → Chained kinds cells values n head next → Chained kinds cells values n head′ next′ →
-      ((h : ℕ) → h < 4096 → getD head h 0 ≡ getD head′ h 0) × ((p : ℕ) → p < n → getD kinds p 0 ≡ 1 → getD next p 0 ≡ getD next′ p 0)
+      ((h : ℕ) → h < chainCount → getD head h 0 ≡ getD head′ h 0) × ((p : ℕ) → p < n → getD kinds p 0 ≡ 1 → getD next p 0 ≡ getD next′ p 0)
   one-table s t = (λ h l. one-latest (s .heads h l) (t .heads h l), λ p l w. one-latest (s .nexts p l w) (t .nexts p l w))
 
   -- and with what stood there before all of next
@@ -114,5 +115,5 @@ zero-at n i = elim (decLt i n) [
 ]
 
 -- arrays of zeros are an empty table
-pub empty-zeros : Empty (replicate 4096 0) (replicate 2048 0)
-empty-zeros = record { head-long = length-replicate {A = ℕ} 4096 0; next-long = length-replicate {A = ℕ} 2048 0; no-heads = zero-at 4096 }
+pub empty-zeros : Empty (replicate chainCount 0) (replicate entryLimit 0)
+empty-zeros = record { head-long = length-replicate {A = ℕ} chainCount 0; next-long = length-replicate {A = ℕ} entryLimit 0; no-heads = zero-at chainCount }

@@ -1,12 +1,14 @@
 -- What the judge's arrays hold: the record's entries by number, the zones of clusters by their writes' numbers, the last read of zero and
 -- the faults by cell.
-use Prim.Native.Nat.{ℕ, _+_, _≤_, _<_, min}
+use Prim.Native.Nat.{ℕ, _+_, _*_, _≤_, _<_, min}
 use mathlib.Core.Path.{_≡_}
 use mathlib.Core.Logic.{_≢_, _⊎_}
 use mathlib.Core.Bool.{cond}
 use mathlib.Core.List.{List}
 use lib.Dec.{eqb, ltb}
 use lib.ListN.{length, getD}
+use Rattle.record.specs.Record.{entryLimit}
+use Rattle.record.specs.Entry.{cellLimit}
 use Rattle.chains.specs.Chains.{Asks, NoneAgain}
 use Rattle.chains.specs.Table.{Chained}
 
@@ -41,8 +43,8 @@ startAt a p = getD (a .starts) p 0
 
 -- what the judge leans on: n entries at most 2,048, cells below 16, no start after its end, and each end of a read has a start of its own
 pub record Fit (a : Arrays) (n : ℕ) : Type 0 where
-  pub few : n ≤ 2048
-  pub cell : (p : ℕ) → p < n → cellAt a p < 16
+  pub few : n ≤ entryLimit
+  pub cell : (p : ℕ) → p < n → cellAt a p < cellLimit
   pub back : (p : ℕ) → p < n → startAt a p ≤ p
   pub read : (p : ℕ) → p < n → kindAt a p ≡ 2 → kindAt a (startAt a p) ≡ 0
   pub one : (p q : ℕ) → p < n → q < n → kindAt a p ≡ 2 → kindAt a q ≡ 2 → startAt a p ≡ startAt a q → p ≡ q
@@ -99,7 +101,11 @@ Unsourced a n p = TellsAt a p × ((w : ℕ) → IsWrite a n w → Asked a w p �
 -- bad marks the cells in which a read that ends below p has no source
 pub record Sources (a : Arrays) (n p : ℕ) (bad : List ℕ) : Type 0 where
   pub sourced : (q : ℕ) → q < p → TellsAt a q → getD bad (cellAt a q) 0 ≡ 0 → (w : ℕ) × Source a n q w
-  pub unsourced : (c : ℕ) → c < 16 → getD bad c 0 ≢ 0 → (q : ℕ) × (q < p) × (cellAt a q ≡ c) × Unsourced a n q
+  pub unsourced : (c : ℕ) → c < cellLimit → getD bad c 0 ≢ 0 → (q : ℕ) × (q < p) × (cellAt a q ≡ c) × Unsourced a n q
+
+-- how many places clusters have, among them one beyond those of all entries
+abbrev pub placeCount : ℕ
+placeCount = 2 * entryLimit
 
 -- a least stop that isn't there: above every place
 abbrev pub far : ℕ
@@ -111,15 +117,15 @@ stopOf kind p = cond (eqb kind 3) p far
 
 -- the pass over the ends, up to place p
 pub record Tally (a : Arrays) (n p : ℕ) (least most zero bad : List ℕ) : Type 0 where
-  pub least-long : length least ≡ 2048
-  pub most-long : length most ≡ 2048
-  pub zero-long : length zero ≡ 16
-  pub bad-long : length bad ≡ 16
+  pub least-long : length least ≡ entryLimit
+  pub most-long : length most ≡ entryLimit
+  pub zero-long : length zero ≡ cellLimit
+  pub bad-long : length bad ≡ cellLimit
   -- least stops and greatest starts of the clusters
   pub lows : Least (IsWrite a n) (Joins a) far p least
   pub highs : Greatest (IsWrite a n) (ReadOf a) (startAt a) (λ w. w) p most
   -- greatest starts of the reads of zero
-  pub zeros : Greatest (λ c. c < 16) (ZeroOf a) (startAt a) (λ c. 0) p zero
+  pub zeros : Greatest (λ c. c < cellLimit) (ZeroOf a) (startAt a) (λ c. 0) p zero
   pub marks : Sources a n p bad
 
 -- what the judge knows of the arrays and of the table of writes
@@ -136,7 +142,7 @@ pub record Taking (a : Arrays) (n p : ℕ) (head next least most zero bad : List
 
 -- each of the first n is its own number
 pub record OwnNumbers (n : ℕ) (most : List ℕ) : Type 0 where
-  pub long : length most ≡ 2048
+  pub long : length most ≡ entryLimit
   pub own : (i : ℕ) → i < n → getD most i 0 ≡ i
 
 -- ---- the sweep
@@ -152,9 +158,9 @@ pub record Placed (a : Arrays) (n : ℕ) (least most : List ℕ) : Type 0 where
 
 -- at has the writes below p at their places, and nothing else; beyond them is a place for what is no write
 pub record Scattered (a : Arrays) (n : ℕ) (least most : List ℕ) (p : ℕ) (at : List ℕ) : Type 0 where
-  pub long : length at ≡ 4096
+  pub long : length at ≡ placeCount
   pub here : (w : ℕ) → IsWrite a n w → w < p → getD at (placeOf least most w) 0 ≡ w
-  pub only : (q : ℕ) → q < 2048 → (getD at q 0 ≡ far) ⊎ (IsWrite a n (getD at q 0) × (getD at q 0 < p) × (placeOf least most (getD at q 0) ≡ q))
+  pub only : (q : ℕ) → q < entryLimit → (getD at q 0 ≡ far) ⊎ (IsWrite a n (getD at q 0) × (getD at q 0 < p) × (placeOf least most (getD at q 0) ≡ q))
 
 -- what scattering needs
 pub record Scattering (a : Arrays) (n : ℕ) (least most : List ℕ) : Type 0 where
@@ -177,8 +183,8 @@ markOf least reach mark = cond (ltb least reach) 1 mark
 
 -- the sweep up to place p: how far each cell reaches, and which are bad beside those that were (was)
 pub record Sweeping (a : Arrays) (n : ℕ) (least most zero was : List ℕ) (p : ℕ) (reach bad : List ℕ) : Type 0 where
-  pub reach-long : length reach ≡ 16
-  pub bad-long : length bad ≡ 16
+  pub reach-long : length reach ≡ cellLimit
+  pub bad-long : length bad ≡ cellLimit
   pub upper : (w : ℕ) → IsWrite a n w → placeOf least most w < p → getD most w 0 ≤ getD reach (cellAt a w) 0
   pub first : (c : ℕ) → getD zero c 0 ≤ getD reach c 0
   pub attained : (c : ℕ) → (getD reach c 0 ≡ getD zero c 0) ⊎ ((w : ℕ) × WriteOf a n c w × (placeOf least most w < p) × (getD reach c 0 ≡ getD most w 0))
@@ -207,6 +213,6 @@ pub record Sweepable (a : Arrays) (n : ℕ) (least most at : List ℕ) : Type 0 
 
 -- the lowest marked cell, 16 if none is
 pub record LowestIn (bad : List ℕ) (r : ℕ) : Type 0 where
-  pub within : r ≤ 16
+  pub within : r ≤ cellLimit
   pub below : (c : ℕ) → c < r → getD bad c 0 ≡ 0
-  pub marked : r < 16 → getD bad r 0 ≢ 0
+  pub marked : r < cellLimit → getD bad r 0 ≢ 0

@@ -7,6 +7,8 @@ use mathlib.Core.List.{List}
 use native.Mathlib.Omega.{arith}
 use lib.Dec.{T}
 use lib.IntN.{ℤ, pos}
+use Rattle.record.specs.Record.{entryLimit}
+use Rattle.record.specs.Entry.{cellLimit}
 use Rattle.number.specs.Value.{alternatingOf, signedOf}
 use Rattle.number.specs.laws.ValueLaws.{signed-alternating}
 use Rattle.law.specs.Operation.{Op}
@@ -29,8 +31,8 @@ alternating-zero = refl
 
 -- the first n entries of the arrays hold the operations ops
 pub record Holds (a : Arrays) (n : ℕ) (ops : List Op) : Type 0 where
-  pub few : n ≤ 2048
-  pub cells : (x : Op) → In x ops → x .cell < 16
+  pub few : n ≤ entryLimit
+  pub cells : (x : Op) → In x ops → x .cell < cellLimit
   pub numbered : Numbered n ops
   pub paired : Paired ops n (a .kinds) (a .cells) (a .values) (a .starts)
 
@@ -136,7 +138,7 @@ module _ (a : Arrays) (n : ℕ) (ops : List Op) (h : Holds a n ops) where
 
   -- ---- the arrays are fit
 
-  cell-any : (p : ℕ) → p < n → cellAt a p < 16
+  cell-any : (p : ℕ) → p < n → cellAt a p < cellLimit
   cell-any p l = ⊎-elim
       (λ s. omega (arith, h .cells (s .0) (s .1 .0), cell-start (s .0) (s .1 .0), ap (cellAt a) (s .1 .1)))
       (λ s. omega (arith, h .cells (s .0) (s .1 .0), cell-stop (s .0) (s .1 .0) (s .1 .1 .0), ap (cellAt a) (s .1 .1 .1)))

@@ -9,6 +9,7 @@ use native.Mathlib.Decide.{decLt}
 use lib.Dec.{T}
 use lib.IntN.{pos}
 use lib.ListN.{getD}
+use Rattle.record.specs.Entry.{cellLimit}
 use Rattle.number.specs.Value.{alternatingOf}
 use Rattle.law.specs.Operation.{Op}
 use Rattle.law.specs.Order.{In, Lawful}
@@ -23,7 +24,7 @@ use Rattle.clusters.specs.laws.Bridge.{start-stop, start-number, start-b
 use Rattle.clusters.specs.laws.Bridge.{distinct-cell, once-cell}
 
 module _ (a : Arrays) (n : ℕ) (ops : List Op) (h : Holds a n ops) (fresh : Fresh a n) (least most zero was : List ℕ) (t : Tally a n n least most zero was)
-    (c : ℕ) (small : c < 16) where
+    (c : ℕ) (small : c < cellLimit) where
   -- the operations of the cell
   abbrev part : List Op
   part = ofCell c ops

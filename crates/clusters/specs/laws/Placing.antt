@@ -7,7 +7,8 @@ use native.Mathlib.Omega.{arith}
 use native.Mathlib.Decide.{decLt, ℕ-discrete}
 use lib.ListN.{length, getD, set, length-set}
 use lib.Seq.{getD-set-same, getD-set-other}
-use Rattle.clusters.specs.laws.Arrays.{Arrays, kindAt, startAt, Fit, Fresh, IsWrite, Asked, ReadOf, Joins, Greatest, Least, far, placeOf, Placed, Scattered}
+use Rattle.record.specs.Record.{entryLimit}
+use Rattle.clusters.specs.laws.Arrays.{placeCount, Arrays, kindAt, startAt, Fit, Fresh, IsWrite, Asked, ReadOf, Joins, Greatest, Least, far, placeOf, Placed, Scattered}
 
 module _ (a : Arrays) (n : ℕ) (fresh : Fresh a n) where
   -- an earlier write of the same is none
@@ -72,7 +73,7 @@ module _ {a : Arrays} {n : ℕ} {least most : List ℕ} (fit : Fit a n) (fresh :
 -- ---- scattering
 
 module _ {a : Arrays} {n : ℕ} {least most : List ℕ} where
-  pub scatter-start : {at : List ℕ} → length at ≡ 4096 → ((q : ℕ) → q < 2048 → getD at q 0 ≡ far) → Scattered a n least most 0 at
+  pub scatter-start : {at : List ℕ} → length at ≡ placeCount → ((q : ℕ) → q < entryLimit → getD at q 0 ≡ far) → Scattered a n least most 0 at
   scatter-start l h = record { long = l; here = λ w i b. absurd (omega arith); only = λ q b. inl (h q b) }
 
   -- entry p asks for no write
@@ -88,7 +89,7 @@ module _ {a : Arrays} {n : ℕ} {least most : List ℕ} where
       }
 
   -- and what is put beyond all places changes nothing
-  pub scatter-beyond : {p : ℕ} {at : List ℕ} → Placed a n least most → Fit a n → (i v : ℕ) → 2048 ≤ i → Scattered a n least most p at → Scattered a n least most p (set at i v)
+  pub scatter-beyond : {p : ℕ} {at : List ℕ} → Placed a n least most → Fit a n → (i v : ℕ) → entryLimit ≤ i → Scattered a n least most p at → Scattered a n least most p (set at i v)
   scatter-beyond {p} {at} own fit i v b s =
       record {
         long = length-set at i v ∙ s .long;
@@ -120,7 +121,7 @@ module _ {a : Arrays} {n : ℕ} {least most : List ℕ} where
           (placeOf least most (getD (set at (placeOf least most p) p) q 0) ≡ q)
       found q f e = (subst (IsWrite a n) (sym f) i, omega (arith, f), ap (placeOf least most) f ∙ sym e)
 
-      other : (q : ℕ) → q < 2048 → getD (set at (placeOf least most p) p) q 0 ≡ getD at q 0
+      other : (q : ℕ) → q < entryLimit → getD (set at (placeOf least most p) p) q 0 ≡ getD at q 0
           → (getD (set at (placeOf least most p) p) q 0 ≡ far) ⊎
           (IsWrite a n (getD (set at (placeOf least most p) p) q 0) × (getD (set at (placeOf least most p) p) q 0 < p + 1) ×
           (placeOf least most (getD (set at (placeOf least most p) p) q 0) ≡ q))

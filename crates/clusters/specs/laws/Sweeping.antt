@@ -8,6 +8,7 @@ use native.Mathlib.Decide.{decLt, ℕ-discrete}
 use lib.ListN.{length, getD, set, length-set}
 use lib.Seq.{getD-set-same, getD-set-other}
 use borrow.Author.Tests.{lt-ltb, le-ltb}
+use Rattle.record.specs.Entry.{cellLimit}
 use Rattle.clusters.specs.laws.Arrays.{Arrays, cellAt, Fit, IsWrite, placeOf, Placed, Scattered, WriteOf, Crossed, markOf, Sweeping, Swept}
 
 -- a cluster that ends before the reach marks its cell
@@ -21,7 +22,7 @@ unfolding markOf
 mark-late least reach mark l = rw (le-ltb least reach l)
 
 module _ (a : Arrays) (n : ℕ) (least most zero was : List ℕ) where
-  pub sweep-start : length zero ≡ 16 → length was ≡ 16 → Sweeping a n least most zero was 0 zero was
+  pub sweep-start : length zero ≡ cellLimit → length was ≡ cellLimit → Sweeping a n least most zero was 0 zero was
   sweep-start l m =
       record {
         reach-long = l;
@@ -64,7 +65,7 @@ module _ (a : Arrays) (n : ℕ) (least most zero was : List ℕ) where
       stands = ⊎-elim (λ e. absurd (omega (arith, fit .few))) (λ (i, l, e). (subst (IsWrite a n) (sym is) i, ap (placeOf least most) is ∙ e))
           (s .only p (omega (arith, fit .few)))
 
-      small : c < 16
+      small : c < cellLimit
       small = omega (arith, fit .cell w write)
 
       reach-same : getD (set reach c g) c 0 ≡ g

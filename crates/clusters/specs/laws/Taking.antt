@@ -8,6 +8,8 @@ use native.Mathlib.Decide.{ℕ-discrete}
 use lib.ListN.{length, getD, set, length-set, replicate, length-replicate, getD-replicate}
 use lib.Seq.{getD-set-same, getD-set-other}
 use borrow.Author.Tests.{ne-eqb}
+use Rattle.record.specs.Record.{entryLimit}
+use Rattle.record.specs.Entry.{cellLimit}
 use Rattle.chains.specs.laws.TableLaws.{zero-at}
 use Rattle.clusters.specs.laws.Arrays.{Arrays, kindAt, cellAt, valueAt, startAt, IsWrite, Asked, Sources, Tally, Ready, Taking, OwnNumbers, far, stopOf, Scattering}
 use Rattle.clusters.specs.laws.Passing.{greatest-start, greatest-skip, greatest-step, least-start, least-same, least-skip, least-step, sources-start, sources-skip}
@@ -16,10 +18,10 @@ use Rattle.clusters.specs.laws.Placing.{one-asks, placed}
 
 -- ---- own numbers
 
-pub own-start : (most : List ℕ) → length most ≡ 2048 → OwnNumbers 0 most
+pub own-start : (most : List ℕ) → length most ≡ entryLimit → OwnNumbers 0 most
 own-start most l = record { long = l; own = λ i b. absurd (omega arith) }
 
-pub own-step : (i v : ℕ) (most : List ℕ) → OwnNumbers i most → i < 2048 → v ≡ i → OwnNumbers (i + 1) (set most i v)
+pub own-step : (i v : ℕ) (most : List ℕ) → OwnNumbers i most → i < entryLimit → v ≡ i → OwnNumbers (i + 1) (set most i v)
 own-step i v most o b e =
     record {
       long = length-set most i v ∙ o .long;
@@ -34,17 +36,17 @@ own-end i n most o l = record { long = o .long; own = λ j b. o .own j (omega ar
 
 -- ---- before the first entry
 
-pub tally-none-yet : (a : Arrays) (n : ℕ) (most : List ℕ) → n ≤ 2048 → OwnNumbers n most → Tally a n 0 (replicate 2048 65535) most (replicate 16 0) (replicate 16 0)
+pub tally-none-yet : (a : Arrays) (n : ℕ) (most : List ℕ) → n ≤ entryLimit → OwnNumbers n most → Tally a n 0 (replicate entryLimit far) most (replicate cellLimit 0) (replicate cellLimit 0)
 tally-none-yet a n most few o =
     record {
-      least-long = length-replicate {A = ℕ} 2048 65535;
+      least-long = length-replicate {A = ℕ} entryLimit far;
       most-long = o .long;
-      zero-long = length-replicate {A = ℕ} 16 0;
-      bad-long = length-replicate {A = ℕ} 16 0;
-      lows = least-start (λ w i. getD-replicate 2048 w 65535 0 (omega (arith, i .0)));
+      zero-long = length-replicate {A = ℕ} cellLimit 0;
+      bad-long = length-replicate {A = ℕ} cellLimit 0;
+      lows = least-start (λ w i. getD-replicate entryLimit w far 0 (omega (arith, i .0)));
       highs = greatest-start (λ w i. o .own w (i .0));
-      zeros = greatest-start (λ c b. zero-at 16 c);
-      marks = sources-start (zero-at 16);
+      zeros = greatest-start (λ c b. zero-at cellLimit c);
+      marks = sources-start (zero-at cellLimit);
     }
 
 -- ---- one entry
@@ -61,13 +63,13 @@ stop-none kind p k = rw (ne-eqb kind 3 k)
 
 module _ (a : Arrays) (n p : ℕ) (head next least most zero bad : List ℕ) (t : Taking a n p head next least most zero bad) where
   -- of the places below n
-  pub small : p < 2048
+  pub small : p < entryLimit
   small = omega (arith, t .below, t .ready .fit .few)
 
-  pub small-cell : cellAt a p < 16
+  pub small-cell : cellAt a p < cellLimit
   small-cell = t .ready .fit .cell p (t .below)
 
-  pub small-start : startAt a p < 2048
+  pub small-start : startAt a p < entryLimit
   small-start = omega (arith, small, t .ready .fit .back p (t .below))
 
   -- it ends nothing
@@ -172,7 +174,7 @@ module _ (a : Arrays) (n p : ℕ) (head next least most zero bad : List ℕ) (t 
         only : (x : ℕ) → IsWrite a n x → Asked a x p → x ≡ w
         only x i r = one-asks a n (t .ready .fresh) x w p i write r s
 
-        tally-marks : (bad′ : List ℕ) → length bad′ ≡ 16 → Sources a n (p + 1) bad′ → Tally a n (p + 1) least′ most′ zero bad′
+        tally-marks : (bad′ : List ℕ) → length bad′ ≡ cellLimit → Sources a n (p + 1) bad′ → Tally a n (p + 1) least′ most′ zero bad′
         tally-marks bad′ long m = rw (el, em) (record {
           least-long = length-set least w (min (getD least w 0) p) ∙ t .tally .least-long;
           most-long = length-set most w (max (getD most w 0) (startAt a p)) ∙ t .tally .most-long;

@@ -11,7 +11,7 @@ use Rattle.rack.specs.declared.Rack.{Rack}
 use Rattle.method.specs.declared.Event.{Event}
 use Rattle.method.specs.declared.Plan.{Plan}
 use Rattle.method.specs.declared.Decision.the-variants.{Go}
-use Rattle.rack.specs.Places.{empty, freeAt, roomOf}
+use Rattle.rack.specs.Places.{slotLimit, empty, freeAt, roomOf}
 use Rattle.rack.specs.Sound.{soundOf}
 use Rattle.rack.specs.Run.{appliedOf, freshRack, madeOf, runOf}
 use Rattle.rack.specs.Refusals.{decided}
@@ -35,15 +35,15 @@ use-or-free (suc n) b f = go (f b) (use-or-free n (b + 1) f)
     go true ih = omega arith
     go false ih = omega arith
 
-use-room : (w : List Slot) → inUse w + roomOf w ≡ 256
+use-room : (w : List Slot) → inUse w + roomOf w ≡ slotLimit
 unfolding inUse roomOf
-use-room w = use-or-free 256 0 (freeAt w)
+use-room w = use-or-free slotLimit 0 (freeAt w)
 
 -- ---- a run
 
--- a sound rack whose wire has 256 slots
+-- a sound rack whose wire has all its slots
 abbrev Wired : Rack → Type 0
-Wired r = (soundOf r ≡ true) × (length (r .wire) ≡ 256)
+Wired r = (soundOf r ≡ true) × (length (r .wire) ≡ slotLimit)
 
 -- the slots of the rack's wire that hold a message
 abbrev usedIn : Rack → ℕ
@@ -67,8 +67,8 @@ event-in-use r e p w g =
     }
 
 -- For every rack, every schedule and every allowance: what is in use after the run, and what was delivered or lost in it, are what was in use before,
--- and what was sent or copied. (A rack's wire has 256 slots; an unsound rack's run does nothing.)
-pub in-use : (r : Rack) (allowance : ℕ) (ws : List ℕ) → length (r .wire) ≡ 256
+-- and what was sent or copied. (A rack's wire has `slotLimit` slots; an unsound rack's run does nothing.)
+pub in-use : (r : Rack) (allowance : ℕ) (ws : List ℕ) → length (r .wire) ≡ slotLimit
     → inUse (runOf r allowance ws .rack .wire) + (tallyOf r allowance ws .delivered + tallyOf r allowance ws .lost)
     ≡ inUse (r .wire) + (tallyOf r allowance ws .sent + tallyOf r allowance ws .copied)
 in-use r allowance ws l = go (soundOf r) refl
@@ -97,11 +97,11 @@ in-use r allowance ws l = go (soundOf r) refl
 -- ---- from a fresh rack
 
 -- the wire of a fresh rack
-fresh-wire : (replicas clients cells : ℕ) → freshRack replicas clients cells .wire ≡ replicate 256 empty
+fresh-wire : (replicas clients cells : ℕ) → freshRack replicas clients cells .wire ≡ replicate slotLimit empty
 unfolding freshRack
 fresh-wire replicas clients cells = refl
 
-none-in-use : inUse (replicate 256 empty) ≡ 0
+none-in-use : inUse (replicate slotLimit empty) ≡ 0
 unfolding inUse countFrom freeAt
 none-in-use = refl
 
@@ -111,10 +111,10 @@ pub in-use-fresh : (replicas clients cells allowance : ℕ) (ws : List ℕ)
     + (tallyOf (madeOf replicas clients cells .rack) allowance ws .delivered + tallyOf (madeOf replicas clients cells .rack) allowance ws .lost)
     ≡ tallyOf (madeOf replicas clients cells .rack) allowance ws .sent + tallyOf (madeOf replicas clients cells .rack) allowance ws .copied
 in-use-fresh replicas clients cells allowance ws =
-    let e = made-fresh (λ (r : Rack). r .wire ≡ replicate 256 empty) fresh-wire replicas clients cells in
+    let e = made-fresh (λ (r : Rack). r .wire ≡ replicate slotLimit empty) fresh-wire replicas clients cells in
     omega (
       arith,
-      in-use (madeOf replicas clients cells .rack) allowance ws (ap length e ∙ length-replicate 256 empty),
+      in-use (madeOf replicas clients cells .rack) allowance ws (ap length e ∙ length-replicate slotLimit empty),
       ap inUse e,
       none-in-use,
     )

@@ -1,11 +1,13 @@
 -- Events: no other outcome fits a call, and wrong ones do not meet its contract. Those of `decode` stand in crate rack, where an edit of what four words mean
 -- is refused by them.
-use Prim.Native.Nat.{ℕ, _+_}
+use Prim.Native.Nat.{ℕ, _+_, _-_}
 use mathlib.Core.Path.{_≡_, ap}
 use mathlib.Core.Bool.{Bool, true, false}
 use mathlib.Core.List.{List}
 use native.Mathlib.Omega.{arith}
 use lib.Count.{ones}
+use Rattle.record.specs.Record.{entryLimit}
+use Rattle.rack.specs.Places.{slotLimit}
 use Rattle.record.specs.declared.Entry.the-variants.{Done}
 use Rattle.method.specs.declared.InSlot.the-variants.{Full}
 use Rattle.method.specs.declared.Event.the-variants.{StartRead, Deliver, Stop}
@@ -27,7 +29,7 @@ use Rattle.events.specs.Examples.{message, sending}
 
 -- ---- in_rack
 
-pub not-slot-256 : (r : Bool) → r ≡ inRack sizes (Deliver 256) → r ≡ true → ⊥
+pub not-slot-256 : (r : Bool) → r ≡ inRack sizes (Deliver slotLimit) → r ≡ true → ⊥
 unfolding inRack
 not-slot-256 r p q = yes-not-no q p
 
@@ -78,6 +80,6 @@ pub not-sent-short : (r : Decision) → r ≡ checked (sending false Nothing) 0 
 unfolding checked noted freed ones refusalIn
 not-sent-short r p q = let e : refusalIn r ≡ 13 = ap refusalIn p in omega arith
 
-pub not-past-2048 : (r : Decision) → r ≡ checked (sending false (Asked (Done (record { 0 = 0 })))) 2047 9 → refusalIn r ≡ 0 → ⊥
+pub not-past-2048 : (r : Decision) → r ≡ checked (sending false (Asked (Done (record { 0 = 0 })))) (entryLimit - 1) 9 → refusalIn r ≡ 0 → ⊥
 unfolding checked noted refusalIn
 not-past-2048 r p q = let e : refusalIn r ≡ 11 = ap refusalIn p in omega arith

@@ -11,6 +11,7 @@ use lib.Dec.{T}
 use lib.IntN.{ℤ}
 use lib.ListN.{length, length-set}
 use lib.Seq.{getD-set-same, getD-set-other}
+use Rattle.record.specs.Entry.{clientLimit, cellLimit}
 use Rattle.record.specs.declared.Entry.{Entry}
 use Rattle.record.specs.declared.Standing.{Standing}
 use Rattle.record.specs.Record.{fresh, standingAfter}
@@ -119,9 +120,9 @@ stops-after es x m t = let h = numbered es .timed x m .stops t in omega (arith, 
 -- What the standing says of the operations: a client's unfinished operation is of the kind that it has open, there is one where it has
 -- something open, and never two.
 pub record Matches (st : Standing) (ops : List Op) : Type 0 where
-  pub eight : length (st .has) ≡ 8
-  pub client : (x : Op) → In x ops → x .client < 8
-  pub cell : (x : Op) → In x ops → x .cell < 16
+  pub eight : length (st .has) ≡ clientLimit
+  pub client : (x : Op) → In x ops → x .client < clientLimit
+  pub cell : (x : Op) → In x ops → x .cell < cellLimit
   pub kind : (x : Op) → In x ops → x .over ≡ false → has st (x .client) ≡ kindOf (x .write)
   pub found : (k : ℕ) → has st k ≢ 0 → (x : Op) × ((In x ops) × ((x .client ≡ k) × (x .over ≡ false)))
   pub one : (x y : Op) → In x ops → In y ops → x .client ≡ y .client → x .over ≡ false → y .over ≡ false → x ≡ y
@@ -254,5 +255,5 @@ follows-back st [] fs f = f
 follows-back st (e ∷ es) fs f = follows-back (standingAfter st e) es fs (f .2)
 
 -- the operations of a legal record are of cells below 16
-pub legal-cell : (es : List Entry) → Legal es → (x : Op) → In x (operations es) → x .cell < 16
+pub legal-cell : (es : List Entry) → Legal es → (x : Op) → In x (operations es) → x .cell < cellLimit
 legal-cell es h = tied es (h .follows) .cell

@@ -10,6 +10,7 @@ use native.Mathlib.Nat.{not-suc-le-zero, le-of-suc-le-suc}
 use native.Mathlib.Decide.{ℕ-discrete}
 use lib.ListN.{length, getD, length-set}
 use borrow.Author.Tests.{eqb-true, eqb-false, eq-eqb, ne-eqb}
+use Rattle.record.specs.Entry.{clientLimit, lastClient}
 use Rattle.record.specs.declared.Entry.{Entry}
 use Rattle.record.specs.declared.Entry.the-variants.{ReadAsked, WriteAsked, Told, Done}
 use Rattle.record.specs.declared.Standing.{Standing}
@@ -81,8 +82,8 @@ part-length c at (e ∷ es) = rw (part-step c at e es) (go (stepOn c at (stepOf 
 
 -- what the part has open, where the record has st open and each client's last operation is of cell `at`: what is of cell c
 record Shadow (c : ℕ) (at : ℕ → ℕ) (st part : Standing) : Type 0 where
-  eight : length (st .has) ≡ 8
-  same : length (part .has) ≡ 8
+  eight : length (st .has) ≡ clientLimit
+  same : length (part .has) ≡ clientLimit
   own : (k : ℕ) → at k ≡ c → has part k ≡ has st k
   other : (k : ℕ) → at k ≢ c → has part k ≡ 0
 
@@ -101,7 +102,7 @@ module _ (c : ℕ) (at : ℕ → ℕ) (st part : Standing) (h : Shadow c at st p
       go (no d) = h .other k d
 
   -- both change at k
-  shadow-both : (k what : ℕ) (to : ℕ → ℕ) → k ≤ 7 → to k ≡ c → ((j : ℕ) → j ≢ k → to j ≡ at j) → Shadow c to (put st k what) (put part k what)
+  shadow-both : (k what : ℕ) (to : ℕ → ℕ) → k ≤ lastClient → to k ≡ c → ((j : ℕ) → j ≢ k → to j ≡ at j) → Shadow c to (put st k what) (put part k what)
   shadow-both k what to b e rest =
       record {
         eight = length-set (st .has) k what ∙ h .eight;

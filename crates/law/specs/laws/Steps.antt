@@ -9,6 +9,7 @@ use lib.Dec.{eqb}
 use lib.IntN.{ℤ, pos}
 use lib.ListN.{set}
 use borrow.Author.Tests.{eqb-true, eqb-false, ne-eqb}
+use Rattle.record.specs.Entry.{lastClient, lastCell}
 use Rattle.record.specs.declared.Entry.{Entry}
 use Rattle.record.specs.declared.Entry.the-variants.{ReadAsked, WriteAsked, Told, Done}
 use Rattle.record.specs.declared.Standing.{Standing}
@@ -79,8 +80,8 @@ standing-step st (Done client) = refl
 
 -- an entry that is in range and no fault: a client that asks has nothing open, one that ends has something
 abbrev pub MayStep : Standing → Step → Type 0
-MayStep st (asks k c w v) = (k ≤ 7) × (c ≤ 15) × (has st k ≡ 0)
-MayStep st (ends k v) = (k ≤ 7) × (has st k ≢ 0)
+MayStep st (asks k c w v) = (k ≤ lastClient) × (c ≤ lastCell) × (has st k ≡ 0)
+MayStep st (ends k v) = (k ≤ lastClient) × (has st k ≢ 0)
 
 no-fault : (b : Bool) (n : ℕ) → n ≢ 0 → cond b 0 n ≡ 0 → b ≡ true
 no-fault true n d e = refl

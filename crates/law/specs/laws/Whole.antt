@@ -5,6 +5,7 @@ use mathlib.Core.List.{List, [], List·Memᴰ·not-nil as no-mem}
 use Prim.Native.Nat.{ℕ, _≤_, _<_}
 use native.Mathlib.Omega.{arith}
 use native.Mathlib.Decide.{decLt}
+use Rattle.record.specs.Entry.{cellLimit}
 use Rattle.record.specs.declared.Entry.{Entry}
 use Rattle.record.specs.Legal.{Legal}
 use Rattle.number.specs.Below.{Bytes}
@@ -42,21 +43,21 @@ part-lawful c es h =
 -- the one theorem
 pub record-locality : (es : List Entry) → Legal es → Lawful (operations es) ↔ ((c : ℕ) → Lawful (operations (partOf c es)))
 record-locality es h =
-    let l = locality (operations es) 16 (legal-cell es h) (stops-after es) (number-apart es) in
+    let l = locality (operations es) cellLimit (legal-cell es h) (stops-after es) (number-apart es) in
     (λ o c. part-lawful c es h .0 (l .0 o c), λ f. l .1 (λ c. part-lawful c es h .1 (f c)))
 
 -- a cell above 15 has no operations
-past-cells : (es : List Entry) → Legal es → (c : ℕ) → 16 ≤ c → Lawful (operations (partOf c es))
+past-cells : (es : List Entry) → Legal es → (c : ℕ) → cellLimit ≤ c → Lawful (operations (partOf c es))
 past-cells es h c b =
     part-lawful c es h .0
     (lawful-none (ofCell c (operations es)) (λ x m. let w = ofCell-of c (operations es) m in let k = legal-cell es h x (w .0) in let e = w .1 in omega arith))
 
 -- the sixteen cells are enough
-pub record-locality-16 : (es : List Entry) → Legal es → Lawful (operations es) ↔ ((c : ℕ) → c < 16 → Lawful (operations (partOf c es)))
+pub record-locality-16 : (es : List Entry) → Legal es → Lawful (operations es) ↔ ((c : ℕ) → c < cellLimit → Lawful (operations (partOf c es)))
 record-locality-16 es h =
     let l = record-locality es h in (
       λ o c b. l .0 o c,
-      λ f. l .1 (λ c. elim (decLt c 16) [ yes b ↦ f c (omega (arith, b)) | no b ↦ past-cells es h c (omega (arith, b)) ]),
+      λ f. l .1 (λ c. elim (decLt c cellLimit) [ yes b ↦ f c (omega (arith, b)) | no b ↦ past-cells es h c (omega (arith, b)) ]),
     )
 
 -- for every record that reads without fault

@@ -1,4 +1,4 @@
--- The lines of a run on a sound rack have 262,144 bytes at most.
+-- The lines of a run on a sound rack have room in `textRoom` bytes.
 use Prim.Native.Nat.{ℕ, zero, suc, _+_, _*_, _≤_}
 use mathlib.Core.Path.{_≡_}
 use mathlib.Core.Bool.{Bool, true, false, cond}
@@ -8,7 +8,7 @@ use lib.Dec.{eqb}
 use lib.ListN.{length, length-append, take}
 use Rattle.text.specs.Text.{decimal, field, refusedWord, lineFeed, hexText}
 use Rattle.text.specs.laws.Length.{Few, both, digits-few, value-few, hex-few}
-use Rattle.record.specs.Entry.{cellLimit, entryBytes}
+use Rattle.record.specs.Entry.{clientLimit, cellLimit, entryBytes}
 use Rattle.record.specs.Record.{entryLimit, allOf, bytesOf}
 use Rattle.record.specs.laws.EntryTrip.{entry-most}
 use Rattle.quorum.specs.Sets.{setBits, hasReplica}
@@ -30,13 +30,47 @@ use Rattle.rack.specs.declared.Line.{Line}
 use Rattle.rack.specs.declared.Settings.{Settings}
 use Rattle.rack.specs.declared.Rack.{Rack}
 use Rattle.rack.specs.declared.Ran.{Ran}
-use Rattle.rack.specs.Places.{slotLimit, partyAt, pairAt, heldAt, recordOf}
+use Rattle.rack.specs.Places.{replicaLimit, slotLimit, partyAt, pairAt, heldAt, recordOf}
 use Rattle.rack.specs.Sound.{soundOf}
 use Rattle.rack.specs.laws.SoundLaws.{sound-of}
 use Rattle.lines.specs.Words.{doneStart, noneWord, replicaStart, clientStart, slotStart, recordStart, space, fromNone}
-use Rattle.lines.specs.Lines.{eachBelow, pairText, kindText, bodyPair, namesText, messageText, slotLine, goalText, memberText, membersText, openText, heldText, holdingText}
+use Rattle.lines.specs.Lines.{textRoom, eachBelow, pairText, kindText, bodyPair, namesText, messageText, slotLine, goalText, memberText, membersText, openText, heldText, holdingText}
 use Rattle.lines.specs.Lines.{phaseWord, phaseHeld, workText}
 use Rattle.lines.specs.Lines.{stoppedText, clientLine, powerText, pairsText, replicaLine, sizesLine, recordLine, rackText, refusalText, refusedLine, ranText, faultLine}
+
+-- ---- how long parts of the lines are at most
+
+-- the replicas of a set, 21 bytes each
+abbrev setMost : ℕ
+setMost = setBits * 21
+
+-- an open operation, without its phase and what is held
+abbrev openMost : ℕ
+openMost = 83 + setMost
+
+-- what a client is at
+abbrev workMost : ℕ
+workMost = 8 + (openMost + 69)
+
+-- a client's line
+abbrev clientMost : ℕ
+clientMost = 27 + (8 + (workMost + 1))
+
+-- a cell's pair in a replica's line
+abbrev pairMost : ℕ
+pairMost = 64
+
+-- a replica's line
+abbrev replicaMost : ℕ
+replicaMost = 28 + (4 + (cellLimit * pairMost + 1))
+
+-- a slot's line
+abbrev slotMost : ℕ
+slotMost = 207
+
+-- the record's bytes, each of an entry's in hex with a space before it
+abbrev recordMost : ℕ
+recordMost = entryLimit * 60
 
 -- ---- pairs
 
@@ -68,7 +102,7 @@ names-few : (client replica cell op : ℕ) → Few (namesText client replica cel
 names-few client replica cell op =
     record { few = simp length-append (omega (arith, digits-few 20 client .few, digits-few 20 replica .few, digits-few 20 cell .few, digits-few 20 op .few)) }
 
-slot-few : (i : ℕ) (h : InSlot) → Few (slotLine i h) 207
+slot-few : (i : ℕ) (h : InSlot) → Few (slotLine i h) slotMost
 slot-few i Empty = record { few = omega arith }
 slot-few i (Full m) =
     let names = names-few (m .client .0) (m .replica .0) (m .cell .0) (m .op) in
@@ -90,15 +124,15 @@ member-few set k = go (hasReplica set k)
     go true = record { few = omega (arith, digits-few 20 k .few) }
     go false = record { few = omega arith }
 
-members-few : (set : ℕ) → Few (membersText set) 336
+members-few : (set : ℕ) → Few (membersText set) setMost
 unfolding setBits
 members-few set = go (eqb set 0)
   where
-    go : (t : Bool) → Few (cond t fromNone (eachBelow setBits (λ k. memberText set k))) 336
+    go : (t : Bool) → Few (cond t fromNone (eachBelow setBits (λ k. memberText set k))) setMost
     go true = record { few = omega arith }
     go false = record { few = omega (arith, each-few setBits 21 (λ k. memberText set k) (member-few set) .few) }
 
-open-few : (op cell : ℕ) (goal : Goal) (set : ℕ) → Few (openText op cell goal set) 419
+open-few : (op cell : ℕ) (goal : Goal) (set : ℕ) → Few (openText op cell goal set) openMost
 open-few op cell goal set = record { few = simp length-append (omega (arith, goal-few goal .few, digits-few 20 cell .few, digits-few 20 op .few, members-few set .few)) }
 
 held-few : (p : Pair) → Few (heldText p) 69
@@ -116,7 +150,7 @@ phase-held-few : (ph : Phase) → Few (phaseHeld ph) 69
 phase-held-few (Asking held) = holding-few held
 phase-held-few (Keeping held) = held-few held
 
-work-few : (op : ℕ) (w : Work) → Few (workText op w) 496
+work-few : (op : ℕ) (w : Work) → Few (workText op w) workMost
 work-few op Idle = record { few = omega (arith, digits-few 20 op .few) }
 work-few op (Open o) = both (phase-few (o .phase)) (both (open-few op (o .cell .0) (o .goal) (o .set)) (phase-held-few (o .phase)))
 
@@ -124,7 +158,7 @@ stopped-few : (b : Bool) → Few (stoppedText b) 8
 stopped-few true = record { few = omega arith }
 stopped-few false = record { few = omega arith }
 
-client-few : (i : ℕ) (p : Party) → Few (clientLine i p) 532
+client-few : (i : ℕ) (p : Party) → Few (clientLine i p) clientMost
 client-few i p =
     let start : Few (field clientStart i) 27 = record { few = omega (arith, digits-few 20 i .few) } in
     let end : Few lineFeed 1 = record { few = omega arith } in
@@ -136,13 +170,13 @@ power-few : (b : Bool) → Few (powerText b) 4
 power-few true = record { few = omega arith }
 power-few false = record { few = omega arith }
 
-cell-few : (r : Rack) (k x : ℕ) → Few (space ++ pairText (pairAt r k x)) 64
+cell-few : (r : Rack) (k x : ℕ) → Few (space ++ pairText (pairAt r k x)) pairMost
 cell-few r k x = record { few = omega (arith, pair-few (pairAt r k x) .few) }
 
-replica-few : (r : Rack) → r .settings .cells ≤ cellLimit → (k : ℕ) → Few (replicaLine r k) 1057
+replica-few : (r : Rack) → r .settings .cells ≤ cellLimit → (k : ℕ) → Few (replicaLine r k) replicaMost
 replica-few r h k =
     let start : Few (field replicaStart k) 28 = record { few = omega (arith, digits-few 20 k .few) } in
-    let pairs : Few (pairsText r k) 1024 = record { few = omega (arith, each-few (r .settings .cells) 64 (λ x. space ++ pairText (pairAt r k x)) (cell-few r k) .few) } in
+    let pairs : Few (pairsText r k) (cellLimit * pairMost) = record { few = omega (arith, each-few (r .settings .cells) pairMost (λ x. space ++ pairText (pairAt r k x)) (cell-few r k) .few) } in
     let end : Few lineFeed 1 = record { few = omega arith } in
     both start (both (power-few (hasReplica (r .power) k)) (both pairs end))
 
@@ -155,11 +189,11 @@ entries-few (suc n) [] = record { few = omega arith }
 entries-few (suc n) (l ∷ lines) = let e : Few (entryBytes (l .entry)) 20 = record { few = entry-most (l .entry) } in
     let b = both e (entries-few n lines) in record { few = omega (arith, b .few) }
 
-record-few : (r : Rack) → r .count ≤ entryLimit → Few (recordLine r) 122887
+record-few : (r : Rack) → r .count ≤ entryLimit → Few (recordLine r) (6 + (recordMost + 1))
 unfolding recordOf
 record-few r h =
     let start : Few recordStart 6 = record { few = omega arith } in
-    let bytes : Few (hexText (bytesOf (recordOf r))) 122880 = record { few = omega (arith, hex-few (bytesOf (recordOf r)) .few, entries-few (r .count) (r .lines) .few) } in
+    let bytes : Few (hexText (bytesOf (recordOf r))) recordMost = record { few = omega (arith, hex-few (bytesOf (recordOf r)) .few, entries-few (r .count) (r .lines) .few) } in
     let end : Few lineFeed 1 = record { few = omega arith } in
     both start (both bytes end)
 
@@ -168,15 +202,17 @@ record-few r h =
 sizes-few : (z : Settings) → Few (sizesLine z) 68
 sizes-few z = record { few = simp length-append (omega (arith, digits-few 20 (z .replicas) .few, digits-few 20 (z .clients) .few, digits-few 20 (z .cells) .few)) }
 
-rack-few : (r : Rack) → soundOf r ≡ true → Few (rackText r) 196058
+rack-few : (r : Rack) → soundOf r ≡ true
+    → Few (rackText r) (68 + (replicaLimit * replicaMost + (clientLimit * clientMost + (slotLimit * slotMost + (6 + (recordMost + 1))))))
+unfolding setBits
 rack-few r h =
     let s = sound-of r h in
-    let replicas : Few (eachBelow (r .settings .replicas) (λ k. replicaLine r k)) 15855 =
-    record { few = omega (arith, each-few (r .settings .replicas) 1057 (λ k. replicaLine r k) (replica-few r (s .settings .cells)) .few, s .settings .replicas) } in
-    let clients : Few (eachBelow (r .settings .clients) (λ i. clientLine i (partyAt r i))) 4256 =
-    record { few = omega (arith, each-few (r .settings .clients) 532 (λ i. clientLine i (partyAt r i)) (λ i. client-few i (partyAt r i)) .few, s .settings .clients) } in
-    let slots : Few (eachBelow slotLimit (λ i. slotLine i (heldAt r i))) 52992 =
-    record { few = omega (arith, each-few slotLimit 207 (λ i. slotLine i (heldAt r i)) (λ i. slot-few i (heldAt r i)) .few) } in
+    let replicas : Few (eachBelow (r .settings .replicas) (λ k. replicaLine r k)) (replicaLimit * replicaMost) =
+    record { few = omega (arith, each-few (r .settings .replicas) replicaMost (λ k. replicaLine r k) (replica-few r (s .settings .cells)) .few, s .settings .replicas) } in
+    let clients : Few (eachBelow (r .settings .clients) (λ i. clientLine i (partyAt r i))) (clientLimit * clientMost) =
+    record { few = omega (arith, each-few (r .settings .clients) clientMost (λ i. clientLine i (partyAt r i)) (λ i. client-few i (partyAt r i)) .few, s .settings .clients) } in
+    let slots : Few (eachBelow slotLimit (λ i. slotLine i (heldAt r i))) (slotLimit * slotMost) =
+    record { few = omega (arith, each-few slotLimit slotMost (λ i. slotLine i (heldAt r i)) (λ i. slot-few i (heldAt r i)) .few) } in
     both (sizes-few (r .settings)) (both replicas (both clients (both slots (record-few r (omega (arith, s .entries))))))
 
 refusal-few : (k : ℕ) → Few (refusalText k) 20
@@ -186,8 +222,8 @@ refusal-few k = go (eqb k 0)
     go true = record { few = omega arith }
     go false = digits-few 20 k
 
-pub ran-fits : (q : Ran) → soundOf (q .rack) ≡ true → length (ranText q) ≤ 262144
-unfolding ranText
+pub ran-fits : (q : Ran) → soundOf (q .rack) ≡ true → length (ranText q) ≤ textRoom
+unfolding ranText setBits
 ran-fits q h =
     let done : Few (field doneStart (q .done)) 25 = record { few = omega (arith, digits-few 20 (q .done) .few) } in
     let start : Few refusedWord 8 = record { few = omega arith } in
@@ -195,7 +231,7 @@ ran-fits q h =
     omega (arith, both (both done (both end (both start (both (refusal-few (q .refusal)) end)))) (rack-few (q .rack) h) .few)
 
 -- the line of a script's fault
-pub fault-fits : (refusal byte : ℕ) → length (faultLine refusal byte) ≤ 262144
+pub fault-fits : (refusal byte : ℕ) → length (faultLine refusal byte) ≤ textRoom
 unfolding faultLine
 fault-fits refusal byte = simp length-append (omega (arith, digits-few 20 refusal .few, digits-few 20 byte .few))
 

@@ -9,8 +9,8 @@ use lib.ListN.{length, drop}
 use lib.Seq.{sets}
 use lib.Dec.{ltb}
 use borrow.Author.Tests.{lt-ltb, le-ltb, le-leb, lt-leb, ltb-true, ltb-false}
-use Rattle.number.specs.Below.{Bytes}
-use Rattle.number.specs.Number.{groupsOf, numberBytes, numberAt, numberOf, taken, endsFirst, lastIsZero, fifthAbove, valueOf, putAnswer, putBytes, Placed}
+use Rattle.number.specs.Below.{byteLimit, Bytes}
+use Rattle.number.specs.Number.{groupSize, fifthMost, groupsOf, numberBytes, numberAt, numberOf, taken, endsFirst, lastIsZero, fifthAbove, valueOf, putAnswer, putBytes, Placed}
 use Rattle.number.specs.Wrote.{Wrote}
 use Rattle.number.specs.declared.Number.the-variants.{Is, Refused}
 use Rattle.number.specs.declared.Put.{Put}
@@ -20,42 +20,42 @@ use Rattle.number.specs.declared.Put.the-variants.{Next, NoRoom}
 
 -- the first number that f + 1 groups don't hold, of which the last is 15 at most
 unfoldable pub top : ℕ → ℕ
-top zero = 16
-top (suc f) = 128 * top f
+top zero = fifthMost + 1
+top (suc f) = groupSize * top f
 
-pub top-least : (f : ℕ) → 16 ≤ top f
+pub top-least : (f : ℕ) → fifthMost + 1 ≤ top f
 unfolding top
 top-least zero = omega arith
 top-least (suc f) = omega (arith, top-least f)
 
-pub groups-small : (f n : ℕ) → n < 128 → groupsOf f n ≡ n ∷ []
+pub groups-small : (f n : ℕ) → n < groupSize → groupsOf f n ≡ n ∷ []
 unfolding groupsOf
 groups-small zero n h = refl
-groups-small (suc f) n h = simp (lt-ltb n 128 h)
+groups-small (suc f) n h = simp (lt-ltb n groupSize h)
 
-pub groups-more : (f n : ℕ) → 128 ≤ n → groupsOf (suc f) n ≡ (128 + n % 128) ∷ groupsOf f (n / 128)
+pub groups-more : (f n : ℕ) → groupSize ≤ n → groupsOf (suc f) n ≡ (groupSize + n % groupSize) ∷ groupsOf f (n / groupSize)
 unfolding groupsOf
-groups-more f n h = simp (le-ltb n 128 h)
+groups-more f n h = simp (le-ltb n groupSize h)
 
 pub groups-some : (f n : ℕ) → 1 ≤ length (groupsOf f n)
 unfolding groupsOf
 groups-some zero n = omega arith
-groups-some (suc f) n = go (ltb n 128) refl
+groups-some (suc f) n = go (ltb n groupSize) refl
   where
-    go : (t : Bool) → ltb n 128 ≡ t → 1 ≤ length (groupsOf (suc f) n)
-    go true e = omega (arith, ap length (groups-small (suc f) n (ltb-true n 128 e)))
-    go false e = omega (arith, ap length (groups-more f n (ltb-false n 128 e)))
+    go : (t : Bool) → ltb n groupSize ≡ t → 1 ≤ length (groupsOf (suc f) n)
+    go true e = omega (arith, ap length (groups-small (suc f) n (ltb-true n groupSize e)))
+    go false e = omega (arith, ap length (groups-more f n (ltb-false n groupSize e)))
 
 groups-few : (f n : ℕ) → length (groupsOf f n) ≤ suc f
 unfolding groupsOf
 groups-few zero n = omega arith
-groups-few (suc f) n = go (ltb n 128) refl (groups-few f (n / 128))
+groups-few (suc f) n = go (ltb n groupSize) refl (groups-few f (n / groupSize))
   where
-    go : (t : Bool) → ltb n 128 ≡ t → length (groupsOf f (n / 128)) ≤ suc f → length (groupsOf (suc f) n) ≤ suc (suc f)
-    go true e h = omega (arith, ap length (groups-small (suc f) n (ltb-true n 128 e)))
-    go false e h = omega (arith, ap length (groups-more f n (ltb-false n 128 e)))
+    go : (t : Bool) → ltb n groupSize ≡ t → length (groupsOf f (n / groupSize)) ≤ suc f → length (groupsOf (suc f) n) ≤ suc (suc f)
+    go true e h = omega (arith, ap length (groups-small (suc f) n (ltb-true n groupSize e)))
+    go false e h = omega (arith, ap length (groups-more f n (ltb-false n groupSize e)))
 
-first-byte : (b : ℕ) (bs : List ℕ) → b < 256 → Bytes bs → Bytes (b ∷ bs)
+first-byte : (b : ℕ) (bs : List ℕ) → b < byteLimit → Bytes bs → Bytes (b ∷ bs)
 first-byte b bs h g zero = h
 first-byte b bs h g (suc i) = g i
 
@@ -66,12 +66,12 @@ no-bytes (suc i) = omega arith
 groups-bytes : (f n : ℕ) → n < top f → Bytes (groupsOf f n)
 unfolding top
 groups-bytes zero n h = rw (groups-small zero n (omega arith)) (first-byte n [] (omega arith) no-bytes)
-groups-bytes (suc f) n h = go (ltb n 128) refl (groups-bytes f (n / 128) (omega arith))
+groups-bytes (suc f) n h = go (ltb n groupSize) refl (groups-bytes f (n / groupSize) (omega arith))
   where
-    go : (t : Bool) → ltb n 128 ≡ t → Bytes (groupsOf f (n / 128)) → Bytes (groupsOf (suc f) n)
-    go true e ih = let small : n < 128 = ltb-true n 128 e in
+    go : (t : Bool) → ltb n groupSize ≡ t → Bytes (groupsOf f (n / groupSize)) → Bytes (groupsOf (suc f) n)
+    go true e ih = let small : n < groupSize = ltb-true n groupSize e in
         rw (groups-small (suc f) n small) (first-byte n [] (omega arith) no-bytes)
-    go false e ih = rw (groups-more f n (ltb-false n 128 e)) (first-byte _ (groupsOf f (n / 128)) (omega arith) ih)
+    go false e ih = rw (groups-more f n (ltb-false n groupSize e)) (first-byte _ (groupsOf f (n / groupSize)) (omega arith) ih)
 
 -- one byte at least, five at most
 pub length-some : (n : ℕ) → 1 ≤ length (numberBytes n)
@@ -81,7 +81,7 @@ pub length-few : (n : ℕ) → length (numberBytes n) ≤ 5
 length-few = groups-few 4
 
 -- a number below 128 is its own byte
-pub bytes-small : (n : ℕ) → n < 128 → numberBytes n ≡ n ∷ []
+pub bytes-small : (n : ℕ) → n < groupSize → numberBytes n ≡ n ∷ []
 bytes-small = groups-small 4
 
 pub bytes-below : (n : ℕ) → n < 2 ^ 32 → Bytes (numberBytes n)

@@ -4,6 +4,7 @@ use Prim.Native.Nat.{_-_}
 use mathlib.Core.Path.{sym, _∙_}
 use borrow.Author.Needs.{needs}
 use borrow.Author.Tests.{lt-ltb, le-ltb}
+use Rattle.record.specs.Record.{entryLimit}
 use Rattle.record.specs.laws.EntryTrip.{written-entry}
 use Rattle.pairs.specs.laws.Pairing.{Pairing, pairs-none, pairs-full, pairs-unread, pairs-misplaced, pairs-few, pairs-end, pairs-on}
 use Rattle.pairs.proofs.pair_up.Statement.{statement}
@@ -13,7 +14,7 @@ abbrev Inv-loop : tie.InvT-loop
 Inv-loop s kinds₀ cells₀ values₀ starts₀ st₀ opened₀ at₀ n₀ kinds cells values starts st opened at n = Pairing s kinds cells values starts opened st at n
 
 abbrev μ-loop : tie.MeasureT-loop
-μ-loop s kinds₀ cells₀ values₀ starts₀ st₀ opened₀ at₀ n₀ kinds cells values starts st opened at n = 2048 - n
+μ-loop s kinds₀ cells₀ values₀ starts₀ st₀ opened₀ at₀ n₀ kinds cells values starts st opened at n = entryLimit - n
 
 lengths-requires : tie.Need-lengths-requires Inv-loop μ-loop
 lengths-requires c κs = search needs

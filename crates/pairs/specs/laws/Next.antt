@@ -12,11 +12,12 @@ use lib.IntN.{ℤ, pos}
 use lib.ListN.{length, getD, set}
 use lib.Seq.{getD-set-same, getD-set-other}
 use borrow.Author.Tests.{eqb-true, eq-eqb}
+use Rattle.record.specs.Entry.{lastClient, clientLimit}
 use Rattle.number.specs.Value.{alternatingOf}
 use Rattle.record.specs.declared.Entry.{Entry}
 use Rattle.record.specs.declared.Entry.the-variants.{ReadAsked, WriteAsked, Told, Done}
 use Rattle.record.specs.declared.Standing.{Standing}
-use Rattle.record.specs.Record.{faultAfter}
+use Rattle.record.specs.Record.{entryLimit, faultAfter}
 use Rattle.record.specs.Legal.{InRange}
 use Rattle.law.specs.Operation.{Op, asked, finished, note}
 use Rattle.law.specs.Order.{In}
@@ -65,7 +66,7 @@ module _ (kinds cells values starts : List ℕ) (n kind cell value start : ℕ) 
 
 -- ---- an entry that starts an operation, and one that ends one
 
-module _ (kinds cells values starts : List ℕ) (n : ℕ) (ops : List Op) (long : Long kinds cells values starts) (few : n < 2048) (old : Paired ops n kinds cells values starts) where
+module _ (kinds cells values starts : List ℕ) (n : ℕ) (ops : List Op) (long : Long kinds cells values starts) (few : n < entryLimit) (old : Paired ops n kinds cells values starts) where
   module _ (kind cell value start : ℕ) where
     started-still : (x : Op) → In x ops
         → (x .number < n + 1) × StartsAt (set kinds n kind) (set cells n cell) (set values n value) (set starts n start) x (x .number)
@@ -168,7 +169,7 @@ true-false p q = let z : _≡_ {A = ℕ} 0 1 = cc in absurd (omega arith)
 abbrev pub OpenAt : List Op → List ℕ → Type 0
 OpenAt ops opened = (x : Op) → In x ops → x .over ≡ false → getD opened (x .client) 0 ≡ x .number
 
-module _ (kinds cells values starts opened : List ℕ) (n : ℕ) (ops : List Op) (long : Long kinds cells values starts) (few : n < 2048) (st : Standing) (tied : Matches st ops)
+module _ (kinds cells values starts opened : List ℕ) (n : ℕ) (ops : List Op) (long : Long kinds cells values starts) (few : n < entryLimit) (st : Standing) (tied : Matches st ops)
     (by : OpenAt ops opened) where
   -- the cell that is found for an end
   cell-found : Paired ops n kinds cells values starts → (o : Op) → In o ops → (k : ℕ) → o .client ≡ k → o .over ≡ false → getD cells (getD opened k 0) 0 ≡ o .cell
@@ -212,7 +213,7 @@ module _ (kinds cells values starts opened : List ℕ) (n : ℕ) (ops : List Op)
       (rw write) (cell-found old (w .0) (w .1 .0) (client .0) q z) (ap (λ (j : ℕ). getD opened j 0) (sym q) ∙ by (w .0) (w .1 .0) z)
       (λ t. refl) (λ t. true-false write t)
 
-  open-asks : length opened ≡ 8 → (k c : ℕ) (w : Bool) (v : ℤ) → k ≤ 7 → has st k ≡ 0 → OpenAt (ops ++ (asked n k c w v n ∷ [])) (set opened k n)
+  open-asks : length opened ≡ clientLimit → (k c : ℕ) (w : Bool) (v : ℤ) → k ≤ lastClient → has st k ≡ 0 → OpenAt (ops ++ (asked n k c w v n ∷ [])) (set opened k n)
   open-asks eight k c w v l free x m o =
       ⊎-elim (λ r. getD-set-other opened k (x .client) n 0 (none-open tied k free x r o) ∙ by x r o)
       (λ e. rw e (getD-set-same opened k n 0 (omega arith))) (in-next ops m)
@@ -221,7 +222,7 @@ module _ (kinds cells values starts opened : List ℕ) (n : ℕ) (ops : List Op)
   open-ends : (k : ℕ) (v : ℤ → ℤ) (start : ℕ) → OpenAt (map (ending n k v) ops) (set opened k start)
   open-ends k v start x m o = let b = still-open n k v ops x m o in getD-set-other opened k (x .client) start 0 (b .1) ∙ by x (b .0) o
 
-  pub open-next : length opened ≡ 8 → (e : Entry) → InRange e → faultAfter st e ≡ 0
+  pub open-next : length opened ≡ clientLimit → (e : Entry) → InRange e → faultAfter st e ≡ 0
       → OpenAt (note n e ops) (set opened (noteRow cells opened n e .client .0) (noteRow cells opened n e .start))
   unfolding note
   open-next eight (ReadAsked client cell) r f = let a = may-step st (ReadAsked client cell) r f in open-asks eight (client .0) (cell .0) false (pos 0) (a .0) (a .2)

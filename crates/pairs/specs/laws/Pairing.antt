@@ -6,15 +6,16 @@ use Prim.Native.Nat.{ℕ, suc, _+_, _≤_, _<_}
 use native.Mathlib.Omega.{arith}
 use native.Mathlib.Decide.{ℕ-discrete}
 use lib.Dec.{ltb}
-use lib.ListN.{length, length-append, getD, set, length-set}
+use lib.ListN.{replicate, length, length-append, getD, set, length-set}
 use lib.Seq.{getD-set-same, getD-set-other}
+use Rattle.number.specs.Below.{byteLimit}
 use Rattle.record.specs.declared.Entry.{Entry}
 use Rattle.record.specs.declared.Entry.the-variants.{ReadAsked, WriteAsked, Told, Done}
 use Rattle.record.specs.declared.Found.the-variants.{At, Fault}
 use Rattle.record.specs.declared.Standing.{Standing}
 use Rattle.record.specs.declared.Answer.the-variants.{All, Refused}
-use Rattle.record.specs.Entry.{entryAt}
-use Rattle.record.specs.Record.{fresh, faultAfter, standingAfter, Held, entries, before, heldFrom, bytesHeld, surveyOf}
+use Rattle.record.specs.Entry.{lastClient, clientLimit, entryAt}
+use Rattle.record.specs.Record.{entryLimit, fresh, faultAfter, standingAfter, Held, entries, before, heldFrom, bytesHeld, surveyOf}
 use Rattle.record.specs.Legal.{InRange, Follows}
 use Rattle.record.specs.laws.Steps.{Counting, ends, onward, survey-tally, tally, counts-end, counts-full, counts-unread, counts-misplaced, counts-on}
 use Rattle.law.specs.Operation.{Op, note, notes, operations}
@@ -59,25 +60,25 @@ pub record Pairing (s kinds cells values starts opened : List ℕ) (st : Standin
   pub held : bytesHeld s ≡ prepend read (heldFrom (λ i. ltb i (length s)) (entryAt s) (counting .left) at n st)
   pub long : Long kinds cells values starts
   pub paired : Paired (operations read) n kinds cells values starts
-  pub eight : length opened ≡ 8
+  pub eight : length opened ≡ clientLimit
   pub low : Low opened
   pub openAt : OpenAt (operations read) opened
 
-low-set : (opened : List ℕ) (k n : ℕ) → k < length opened → n < 2048 → Low opened → Low (set opened k n)
+low-set : (opened : List ℕ) (k n : ℕ) → k < length opened → n < entryLimit → Low opened → Low (set opened k n)
 low-set opened k n l few low j = go (ℕ-discrete j k)
   where
-    go : Dec (j ≡ k) → getD (set opened k n) j 0 < 2048
+    go : Dec (j ≡ k) → getD (set opened k n) j 0 < entryLimit
     go (yes e) = rw e (rw (getD-set-same opened k n 0 l) few)
     go (no d) = rw (getD-set-other opened k j n 0 d) (low j)
 
 -- a row's client is one of eight, and its start is an entry's number
-pub row-client : (cells opened : List ℕ) (n : ℕ) (e : Entry) → InRange e → noteRow cells opened n e .client .0 ≤ 7
+pub row-client : (cells opened : List ℕ) (n : ℕ) (e : Entry) → InRange e → noteRow cells opened n e .client .0 ≤ lastClient
 row-client cells opened n (ReadAsked client cell) r = r .0
 row-client cells opened n (WriteAsked client cell v) r = r .0
 row-client cells opened n (Told client v) r = r .0
 row-client cells opened n (Done client) r = r
 
-row-start : (cells opened : List ℕ) (n : ℕ) (e : Entry) → n < 2048 → Low opened → noteRow cells opened n e .start < 2048
+row-start : (cells opened : List ℕ) (n : ℕ) (e : Entry) → n < entryLimit → Low opened → noteRow cells opened n e .start < entryLimit
 row-start cells opened n (ReadAsked client cell) few low = few
 row-start cells opened n (WriteAsked client cell v) few low = few
 row-start cells opened n (Told client v) few low = low (client .0)
@@ -100,14 +101,14 @@ module _ {kinds cells values starts opened : List ℕ} {n : ℕ} {row : Row} {ki
 
 -- ---- before the first entry
 
-low-zeros : Low (0 ∷ 0 ∷ 0 ∷ 0 ∷ 0 ∷ 0 ∷ 0 ∷ 0 ∷ [])
+low-zeros : Low (replicate clientLimit 0)
 low-zeros k = omega (arith, fresh-none k)
 
-pub pairs-none : (s kinds cells values starts : List ℕ) → Long kinds cells values starts → Pairing s kinds cells values starts (0 ∷ 0 ∷ 0 ∷ 0 ∷ 0 ∷ 0 ∷ 0 ∷ 0 ∷ []) fresh 0 0
+pub pairs-none : (s kinds cells values starts : List ℕ) → Long kinds cells values starts → Pairing s kinds cells values starts (replicate clientLimit 0) fresh 0 0
 unfolding bytesHeld prepend operations notes
 pairs-none s kinds cells values starts long =
     record {
-      counting = record { left = 2048; limit = refl; same = refl };
+      counting = record { left = entryLimit; limit = refl; same = refl };
       read = [];
       count = refl;
       follows = tt;
@@ -133,17 +134,17 @@ pairs-refused s kinds cells values starts k n p =
     }
 
 module _ {s kinds cells values starts opened : List ℕ} {st : Standing} {at n : ℕ} (w : Pairing s kinds cells values starts opened st at n) where
-  pub pairs-full : ltb at (length s) ≡ true → n ≡ 2048 → PairsUp s (Refused 28 n) kinds cells values starts
+  pub pairs-full : ltb at (length s) ≡ true → n ≡ entryLimit → PairsUp s (Refused 28 n) kinds cells values starts
   pairs-full h e = pairs-refused s kinds cells values starts 28 n (counts-full _ _ _ _ _ _ _ _ (w .counting) h e)
 
-  pub pairs-unread : (k : ℕ) → ltb at (length s) ≡ true → (n ≡ 2048 → ⊥) → entryAt s at ≡ Fault k → PairsUp s (Refused k n) kinds cells values starts
+  pub pairs-unread : (k : ℕ) → ltb at (length s) ≡ true → (n ≡ entryLimit → ⊥) → entryAt s at ≡ Fault k → PairsUp s (Refused k n) kinds cells values starts
   pairs-unread k h l g = pairs-refused s kinds cells values starts k n (counts-unread _ _ _ _ _ _ _ _ (w .counting) k h l g)
 
-  pub pairs-misplaced : (k : ℕ) (e : Entry) (next : ℕ) → ltb at (length s) ≡ true → (n ≡ 2048 → ⊥) → entryAt s at ≡ At e next → k ≡ faultAfter st e → (k ≡ 0 → ⊥)
+  pub pairs-misplaced : (k : ℕ) (e : Entry) (next : ℕ) → ltb at (length s) ≡ true → (n ≡ entryLimit → ⊥) → entryAt s at ≡ At e next → k ≡ faultAfter st e → (k ≡ 0 → ⊥)
       → PairsUp s (Refused k n) kinds cells values starts
   pairs-misplaced k e next h l g q z = pairs-refused s kinds cells values starts k n (counts-misplaced _ _ _ _ _ _ _ _ (w .counting) k e next h l g q z)
 
-  pub pairs-few : (n ≡ 2048 → ⊥) → n < 2048
+  pub pairs-few : (n ≡ entryLimit → ⊥) → n < entryLimit
   pairs-few l = omega (arith, w .counting .limit, l)
 
   pub pairs-end : ltb at (length s) ≡ false → PairsUp s (All n) kinds cells values starts
@@ -154,12 +155,12 @@ module _ {s kinds cells values starts opened : List ℕ} {st : Standing} {at n :
         paired = λ es q. let same : es ≡ w .read = cc in rw same (rw (w .count) (w .paired));
       }
 
-  pub pairs-on : {kinds′ cells′ values′ starts′ opened′ : List ℕ} {st′ : Standing} (e : Entry) (next : ℕ) → ((i : ℕ) → getD s i 0 < 256)
-      → ltb at (length s) ≡ true → (n ≡ 2048 → ⊥) → entryAt s at ≡ At e next → faultAfter st e ≡ 0
+  pub pairs-on : {kinds′ cells′ values′ starts′ opened′ : List ℕ} {st′ : Standing} (e : Entry) (next : ℕ) → ((i : ℕ) → getD s i 0 < byteLimit)
+      → ltb at (length s) ≡ true → (n ≡ entryLimit → ⊥) → entryAt s at ≡ At e next → faultAfter st e ≡ 0
       → Noted kinds cells values starts opened n (noteRow cells opened n e) kinds′ cells′ values′ starts′ opened′ → st′ ≡ standingAfter st e
       → Pairing s kinds′ cells′ values′ starts′ opened′ st′ next (n + 1)
   pairs-on e next bytes h l g z q t =
-      let few : n < 2048 = pairs-few l in
+      let few : n < entryLimit = pairs-few l in
       let r : InRange e = written-entry s at e next bytes g .range in
       let c = counts-on _ _ _ _ _ _ _ _ (w .counting) e next h l g z in
       let left : w .counting .left ≡ suc (c .left) = omega (arith, w .counting .limit, c .limit) in

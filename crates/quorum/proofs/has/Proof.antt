@@ -1,12 +1,13 @@
--- `quorum::has` meets its contract: a set of sixteen bits has no replica beyond them.
+-- `quorum::has` meets its contract: a set has no replica beyond its bits.
 use mathlib.Core.Path.{refl}
 use borrow.Author.Needs.{needs}
 use Rattle.quorum.proofs.Laws.{has-no-bit}
-use Rattle.quorum.specs.Sets.{hasReplica}
+use Rattle.quorum.specs.Sets.{setBits, hasReplica}
 use Rattle.quorum.proofs.has.Statement.{statement}
 use Rattle.quorum.proofs.has.Tie as tie
 
 returns : tie.Need-returns
+unfolding setBits
 returns c = has-no-bit (c .before .args .set) (c .before .args .k .0) (search needs) (c .if1 .taken)
 
 cast-result : tie.Need-cast-result

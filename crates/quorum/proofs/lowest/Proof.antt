@@ -1,4 +1,4 @@
--- `quorum::lowest` meets its contract: there are sixteen zeros at most.
+-- `quorum::lowest` meets its contract: there are no more zeros than bits.
 use mathlib.Core.Path.{refl}
 use native.Mathlib.Omega.{arith}
 use lib.Count.{trailing-le}
@@ -7,7 +7,8 @@ use Rattle.quorum.proofs.lowest.Statement.{statement}
 use Rattle.quorum.proofs.lowest.Tie as tie
 
 cast-k : tie.Need-cast-k
-cast-k c = record { fits = omega (arith, trailing-le 16 (c .args .set)) }
+unfolding setBits
+cast-k c = record { fits = omega (arith, trailing-le setBits (c .args .set)) }
 
 returns : tie.Need-returns
 unfolding lowestOf setBits

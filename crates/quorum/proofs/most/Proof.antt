@@ -1,6 +1,6 @@
 -- `quorum::most` meets its contract.
 use borrow.Author.Needs.{needs}
-use Rattle.quorum.specs.Sets.{majority}
+use Rattle.quorum.specs.Sets.{setBits, majority}
 use Rattle.quorum.proofs.most.Statement.{statement}
 use Rattle.quorum.proofs.most.Tie as tie
 
@@ -11,6 +11,7 @@ count-requires : tie.Need-count-requires
 count-requires c κs = search needs
 
 mul-result : tie.Need-mul-result
+unfolding setBits
 mul-result c = search needs
 
 returns : tie.Need-returns

@@ -1,6 +1,7 @@
--- `quorum::rest` meets its contract: the lowest replica of a set that has some is one of the sixteen, and its bit can be taken away.
+-- `quorum::rest` meets its contract: the lowest replica of a set that has some has its bit in it, and that can be taken away.
 use borrow.Author.Needs.{needs}
-use Rattle.quorum.proofs.Laws.{rest-none, lowest-sixteen, rest-room, rest-is}
+use Rattle.quorum.specs.Sets.{setBits}
+use Rattle.quorum.proofs.Laws.{rest-none, lowest-low, rest-room, rest-is}
 use Rattle.quorum.proofs.rest.Statement.{statement}
 use Rattle.quorum.proofs.rest.Tie as tie
 
@@ -14,12 +15,15 @@ cast-result : tie.Need-cast-result
 cast-result c = search needs
 
 shl-result : tie.Need-shl-result
-shl-result c = lowest-sixteen (c .before .before .before .args .set) _ (search needs) (c .before .before .if1 .left) (λ i. c .before .lowest .ensures i .0)
+unfolding setBits
+shl-result c = lowest-low (c .before .before .before .args .set) _ (search needs) (c .before .before .if1 .left) (λ i. c .before .lowest .ensures i .0)
 
 sub-result : tie.Need-sub-result
+unfolding setBits
 sub-result c = rest-room (c .before .before .before .args .set) _ (search needs) (c .before .before .if1 .left) (λ i. c .before .lowest .ensures i .0)
 
 returns-2 : tie.Need-returns-2
+unfolding setBits
 returns-2 c = rest-is (c .before .before .before .args .set) _ (search needs) (c .before .before .if1 .left) (λ i. c .before .lowest .ensures i .0)
 
 pub rest-spec : {M : Type 1} → statement M

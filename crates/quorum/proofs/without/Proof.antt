@@ -1,7 +1,8 @@
--- `quorum::without` meets its contract: a member's bit is one of the sixteen, and can be taken away.
+-- `quorum::without` meets its contract: a member has its bit in the set, and it can be taken away.
 use mathlib.Core.Path.{_∙_, sym}
 use borrow.Author.Needs.{needs}
-use Rattle.quorum.proofs.Laws.{has-sixteen, bit-fits, without-bit, without-none}
+use Rattle.quorum.specs.Sets.{setBits}
+use Rattle.quorum.proofs.Laws.{has-low, bit-fits, without-bit, without-none}
 use Rattle.quorum.proofs.without.Statement.{statement}
 use Rattle.quorum.proofs.without.Tie as tie
 
@@ -12,13 +13,16 @@ cast-result : tie.Need-cast-result
 cast-result c = search needs
 
 shl-result : tie.Need-shl-result
+unfolding setBits
 shl-result c =
-    has-sixteen (c .before .before .args .set) (c .before .before .args .k .0) (search needs) (sym (c .before .has .ensures) ∙ c .if1 .taken)
+    has-low (c .before .before .args .set) (c .before .before .args .k .0) (search needs) (sym (c .before .has .ensures) ∙ c .if1 .taken)
 
 sub-result : tie.Need-sub-result
+unfolding setBits
 sub-result c = bit-fits (c .before .before .args .set) (c .before .before .args .k .0) (search needs) (sym (c .before .has .ensures) ∙ c .if1 .taken)
 
 returns : tie.Need-returns
+unfolding setBits
 returns c = without-bit (c .before .before .args .set) (c .before .before .args .k .0) (search needs) (sym (c .before .has .ensures) ∙ c .if1 .taken)
 
 returns-2 : tie.Need-returns-2

@@ -54,7 +54,7 @@ not-outside r p q = yes-not-no p q
 
 -- ---- count
 
-pub one-count : (s r r′ : ℕ) → (r ≡ countOf s) × (r ≤ 16) → (r′ ≡ countOf s) × (r′ ≤ 16) → r ≡ r′
+pub one-count : (s r r′ : ℕ) → (r ≡ countOf s) × (r ≤ setBits) → (r′ ≡ countOf s) × (r′ ≤ setBits) → r ≡ r′
 one-count s r r′ p q = p .0 ∙ sym (q .0)
 
 -- replicas 0 and 2 are two: neither the set's number nor its highest bit

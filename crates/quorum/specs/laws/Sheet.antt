@@ -44,8 +44,8 @@ pub one-more : withReplica 0b01010 4 ≡ 0b11010
 unfolding withReplica setBits
 one-more = refl
 
--- a set has no bit for replica 16
-pub none-more : withReplica 0b01010 16 ≡ 0b01010
+-- a set has no bit for a replica beyond its bits
+pub none-more : withReplica 0b01010 setBits ≡ 0b01010
 unfolding withReplica setBits
 none-more = refl
 

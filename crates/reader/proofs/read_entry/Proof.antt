@@ -1,7 +1,7 @@
 -- `reader::read_entry` meets its contract. Assumes nothing.
 use mathlib.Core.Path.{sym, _∙_}
 use native.Mathlib.Omega.{arith}
-use Rattle.record.specs.Entry.{entryAt}
+use Rattle.record.specs.Entry.{lastClient, entryAt}
 use Rattle.number.specs.Number.{andThen}
 use Rattle.record.specs.laws.EntryTrip.{passed}
 use borrow.Author.Needs.{needs}
@@ -31,7 +31,7 @@ enum-known-client : tie.Need-enum-known-client
 enum-known-client c = search needs
 
 cast-t13 : tie.Need-cast-t13
-cast-t13 c = omega (arith, passed 7 25 _ _ _ (sym (c .before .before .before .read-up-to2 .ensures) ∙ c .before .client .given .1) .1)
+cast-t13 c = omega (arith, passed lastClient 25 _ _ _ (sym (c .before .before .before .read-up-to2 .ensures) ∙ c .before .client .given .1) .1)
 
 read-fields-requires : tie.Need-read-fields-requires
 read-fields-requires c κs = search needs

@@ -2,7 +2,7 @@
 use mathlib.Core.Path.{sym, _∙_}
 use native.Mathlib.Omega.{arith}
 use borrow.Author.Tests.{eq-eqb, ne-eqb}
-use Rattle.record.specs.Entry.{fieldsAt}
+use Rattle.record.specs.Entry.{lastCell, fieldsAt}
 use Rattle.number.specs.Number.{andThen}
 use Rattle.record.specs.laws.EntryTrip.{passed}
 use Rattle.number.specs.laws.ValueLaws.{signed-of-bits}
@@ -59,7 +59,7 @@ enum-known-cell : tie.Need-enum-known-cell
 enum-known-cell c = search needs
 
 cast-t23 : tie.Need-cast-t23
-cast-t23 c = omega (arith, passed 15 25 _ _ _ (sym (c .before .before .before .before .read-up-to .ensures) ∙ c .before .before .cell .given .1) .1)
+cast-t23 c = omega (arith, passed lastCell 25 _ _ _ (sym (c .before .before .before .before .read-up-to .ensures) ∙ c .before .before .cell .given .1) .1)
 
 returns-4 : tie.Need-returns-4
 unfolding fieldsAt andThen
@@ -82,7 +82,7 @@ enum-known-v-2 c = search needs
 cast-t28 : tie.Need-cast-t28
 cast-t28 c = omega (
   arith,
-  passed 15 25 _ _ _ (sym (c .before .before .before .before .before .before .before .before .read-up-to .ensures)
+  passed lastCell 25 _ _ _ (sym (c .before .before .before .before .before .before .before .before .read-up-to .ensures)
       ∙ c .before .before .before .before .before .before .cell .given .1) .1,
 )
 

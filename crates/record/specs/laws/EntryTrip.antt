@@ -7,7 +7,7 @@ use native.Mathlib.Omega.{arith}
 use lib.ListN.{drop, length, length-append}
 use lib.Dec.{ltb}
 use borrow.Author.Tests.{le-ltb, ltb-false}
-use Rattle.number.specs.Number.{numberBytes, numberAt, andThen}
+use Rattle.number.specs.Number.{groupSize, numberBytes, numberAt, andThen}
 use Rattle.number.specs.Value.{alternatingOf, signedOf}
 use Rattle.number.specs.laws.NumberLaws.{length-some, length-few, bytes-small, bytes-below}
 use Rattle.number.specs.laws.ValueLaws.{signed-alternating, alternating-signed, alternating-below, signed-fits}
@@ -19,9 +19,9 @@ use Rattle.record.specs.declared.Entry.{Entry}
 use Rattle.record.specs.declared.Entry.the-variants.{ReadAsked, WriteAsked, Told, Done}
 use Rattle.record.specs.declared.Found.{Found}
 use Rattle.record.specs.declared.Found.the-variants.{At, Fault}
-use Rattle.record.specs.Entry.{entryBytes, upTo, fieldsAt, entryAt}
+use Rattle.record.specs.Entry.{lastClient, lastCell, longestEntry, entryBytes, upTo, fieldsAt, entryAt}
 use Rattle.record.specs.Legal.{InRange}
-use Rattle.number.specs.Below.{Below, Bytes}
+use Rattle.number.specs.Below.{byteLimit, Below, Bytes}
 
 -- ---- what was written is read
 
@@ -55,13 +55,13 @@ record Head (s : List ℕ) (at kind client : ℕ) (more : List ℕ) : Type 0 whe
   gives : entryAt s at ≡ fieldsAt s place kind client
   rest : drop place s ≡ more
 
-head : (s : List ℕ) (at kind client : ℕ) (more : List ℕ) → kind ≤ 3 → client ≤ 7 → drop at s ≡ numberBytes kind ++ (numberBytes client ++ more)
+head : (s : List ℕ) (at kind client : ℕ) (more : List ℕ) → kind ≤ 3 → client ≤ lastClient → drop at s ≡ numberBytes kind ++ (numberBytes client ++ more)
     → Head s at kind client more
 unfolding entryAt andThen
 head s at kind client more hk hc e =
     let a = step s at kind (numberBytes client ++ more) (omega arith) e in
     let b = step s (a .place) client more (omega arith) (a .rest) in
-    record { place = b .place; is = omega (arith, a .is, b .is); gives = simp (checked 3 24 a hk, checked 7 25 b hc); rest = b .rest }
+    record { place = b .place; is = omega (arith, a .is, b .is); gives = simp (checked 3 24 a hk, checked lastClient 25 b hc); rest = b .rest }
 
 -- an entry's bytes at place at are read as the entry, whatever follows
 pub reads-entry : (e : Entry) (s : List ℕ) (at : ℕ) (more : List ℕ) → InRange e → drop at s ≡ entryBytes e ++ more → entryAt s at ≡ At e (at + length (entryBytes e))
@@ -69,13 +69,13 @@ unfolding entryBytes fieldsAt andThen
 reads-entry (ReadAsked client cell) s at more h e =
     let a = head s at 0 (client .0) (numberBytes (cell .0) ++ more) (omega arith) (h .0) (e ∙ simp append-assoc) in
     let b = step s (a .place) (cell .0) more (omega arith) (a .rest) in
-    a .gives ∙ simp (checked 15 25 b (h .1)) (ap (At (ReadAsked client cell)) (simp length-append (omega (arith, a .is, b .is))))
+    a .gives ∙ simp (checked lastCell 25 b (h .1)) (ap (At (ReadAsked client cell)) (simp length-append (omega (arith, a .is, b .is))))
 reads-entry (WriteAsked client cell v) s at more h e =
     let a = head s at 1 (client .0) (numberBytes (cell .0) ++ (numberBytes (alternatingOf v) ++ more)) (omega arith) (h .0) (e ∙ simp append-assoc) in
     let b = step s (a .place) (cell .0) (numberBytes (alternatingOf v) ++ more) (omega arith) (a .rest) in
     let c = step s (b .place) (alternatingOf v) more (alternating-below v (h .2)) (b .rest) in
     a .gives
-    ∙ simp (checked 15 25 b (h .1), c .gives, signed-alternating) (ap (At (WriteAsked client cell v)) (simp length-append (omega (arith, a .is, b .is, c .is))))
+    ∙ simp (checked lastCell 25 b (h .1), c .gives, signed-alternating) (ap (At (WriteAsked client cell v)) (simp length-append (omega (arith, a .is, b .is, c .is))))
 reads-entry (Told client v) s at more h e =
     let a = head s at 2 (client .0) (numberBytes (alternatingOf v) ++ more) (omega arith) (h .0) (e ∙ simp append-assoc) in
     let b = step s (a .place) (alternatingOf v) more (alternating-below v (h .1)) (a .rest) in
@@ -122,12 +122,12 @@ pub record WasWritten (s : List ℕ) (at : ℕ) (e : Entry) (next : ℕ) : Type 
 same : {s : List ℕ} {at : ℕ} {e e′ : Entry} {next next′ : ℕ} → At e next ≡ At e′ next′ → WasWritten s at e next → WasWritten s at e′ next′
 same {s} {at} p w = subst₂ (WasWritten s at) (cc) (cc) w
 
-fields : (s : List ℕ) (at a b kind client : ℕ) (e : Entry) (next : ℕ) → Bytes s → Stands s at kind a → Stands s a client b → client ≤ 7 → kind ≤ 3
+fields : (s : List ℕ) (at a b kind client : ℕ) (e : Entry) (next : ℕ) → Bytes s → Stands s at kind a → Stands s a client b → client ≤ lastClient → kind ≤ 3
     → fieldsAt s b kind client ≡ At e next → WasWritten s at e next
 unfolding fieldsAt entryBytes
 fields s at a b zero client e next h wk wc hc hk p =
-    let w = went (upTo 15 25 (numberAt s b)) (λ cell c. At (ReadAsked (record { 0 = client }) (record { 0 = cell })) c) e next p in
-    let q = passed 15 25 (w .n) (w .m) (numberAt s b) (w .is) in
+    let w = went (upTo lastCell 25 (numberAt s b)) (λ cell c. At (ReadAsked (record { 0 = client }) (record { 0 = cell })) c) e next p in
+    let q = passed lastCell 25 (w .n) (w .m) (numberAt s b) (w .is) in
     let d = written-read s b (w .n) (w .m) h (q .0) in
     same (w .on) (record {
       bytes = wk .here ∙ simp (wc .here, d .here, append-assoc);
@@ -136,9 +136,9 @@ fields s at a b zero client e next h wk wc hc hk p =
       within = d .within;
     })
 fields s at a b (suc zero) client e next h wk wc hc hk p =
-    let w = went (upTo 15 25 (numberAt s b))
+    let w = went (upTo lastCell 25 (numberAt s b))
     (λ cell c. andThen Fault (numberAt s c) (λ v d. At (WriteAsked (record { 0 = client }) (record { 0 = cell }) (signedOf v)) d)) e next p in
-    let q = passed 15 25 (w .n) (w .m) (numberAt s b) (w .is) in
+    let q = passed lastCell 25 (w .n) (w .m) (numberAt s b) (w .is) in
     let d = written-read s b (w .n) (w .m) h (q .0) in
     let u = went (numberAt s (w .m)) (λ v x. At (WriteAsked (record { 0 = client }) (record { 0 = w .n }) (signedOf v)) x) e next (w .on) in
     let f = written-read s (w .m) (u .n) (u .m) h (u .is) in
@@ -170,10 +170,10 @@ fields s at a b (suc (suc (suc (suc k)))) client e next h wk wc hc hk p = absurd
 pub written-entry : (s : List ℕ) (at : ℕ) (e : Entry) (next : ℕ) → Bytes s → entryAt s at ≡ At e next → WasWritten s at e next
 unfolding entryAt
 written-entry s at e next h p =
-    let w = went (upTo 3 24 (numberAt s at)) (λ kind a. andThen Fault (upTo 7 25 (numberAt s a)) (λ client b. fieldsAt s b kind client)) e next p in
+    let w = went (upTo 3 24 (numberAt s at)) (λ kind a. andThen Fault (upTo lastClient 25 (numberAt s a)) (λ client b. fieldsAt s b kind client)) e next p in
     let q = passed 3 24 (w .n) (w .m) (numberAt s at) (w .is) in
-    let u = went (upTo 7 25 (numberAt s (w .m))) (λ client b. fieldsAt s b (w .n) client) e next (w .on) in
-    let r = passed 7 25 (u .n) (u .m) (numberAt s (w .m)) (u .is) in
+    let u = went (upTo lastClient 25 (numberAt s (w .m))) (λ client b. fieldsAt s b (w .n) client) e next (w .on) in
+    let r = passed lastClient 25 (u .n) (u .m) (numberAt s (w .m)) (u .is) in
     fields s at (w .m) (u .m) (w .n) (u .n) e next h (written-read s at (w .n) (w .m) h (q .0)) (written-read s (w .m) (u .n) (u .m) h (r .0)) (r .1) (q .1) (u .on)
 
 -- ---- an entry's bytes
@@ -194,12 +194,12 @@ entry-most (WriteAsked client cell v) = simp length-append (omega (arith, length
 entry-most (Told client v) = simp length-append (omega (arith, length-few 2, length-few (client .0), length-few (alternatingOf v)))
 entry-most (Done client) = simp length-append (omega (arith, length-few 3, length-few (client .0)))
 
--- a number below 128 takes one
-one-byte : (n : ℕ) → n < 128 → length (numberBytes n) ≡ 1
+-- a number of one group takes one
+one-byte : (n : ℕ) → n < groupSize → length (numberBytes n) ≡ 1
 one-byte n h = ap length (bytes-small n h)
 
--- an entry takes eight bytes at most: three for kind, client and cell, five for the value
-pub entry-few : (e : Entry) → InRange e → length (entryBytes e) ≤ 8
+-- an entry is no longer than the longest: three for kind, client and cell, five for the value
+pub entry-few : (e : Entry) → InRange e → length (entryBytes e) ≤ longestEntry
 unfolding entryBytes
 entry-few (ReadAsked client cell) h = simp length-append (omega (arith, one-byte 0 (omega arith), one-byte (client .0) (omega arith), one-byte (cell .0) (omega arith)))
 entry-few (WriteAsked client cell v) h =
@@ -219,7 +219,7 @@ below-append m (x ∷ xs) ys h g (suc i) = below-append m xs ys (λ j. h (suc j)
 
 -- a number's bytes before others
 bytes-then : (n : ℕ) (xs : List ℕ) → n < 2 ^ 32 → Bytes xs → Bytes (numberBytes n ++ xs)
-bytes-then n xs h g = below-append 256 (numberBytes n) xs (bytes-below n h) g
+bytes-then n xs h g = below-append byteLimit (numberBytes n) xs (bytes-below n h) g
 
 bytes-two : (n m : ℕ) → n < 2 ^ 32 → m < 2 ^ 32 → Bytes (numberBytes n ++ numberBytes m)
 bytes-two n m h g = bytes-then n (numberBytes m) h (bytes-below m g)

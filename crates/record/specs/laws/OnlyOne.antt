@@ -14,7 +14,7 @@ use Rattle.record.specs.declared.Found.the-variants.{At, Fault}
 use Rattle.record.specs.declared.Standing.{Standing}
 use Rattle.record.specs.declared.Answer.{Answer}
 use Rattle.record.specs.declared.Answer.the-variants.{All, Refused}
-use Rattle.record.specs.Entry.{entryBytes, upTo, fieldsAt, entryAt}
+use Rattle.record.specs.Entry.{lastClient, entryBytes, upTo, fieldsAt, entryAt}
 use Rattle.record.specs.Record.{fresh, openBy, opened, faultAfter, standingAfter, bytesHeld, surveyOf}
 use Rattle.record.specs.Answers.{foundRefusal, foundNext, foundBytes, refusalIn, entryIn, countIn}
 use Rattle.record.specs.Examples.{sheetBytes}
@@ -46,11 +46,11 @@ not-three-of-done r p q = omega (arith, ap foundNext (p ∙ done-short))
 pub one-fresh : (r r′ : Standing) → r ≡ fresh → r′ ≡ fresh → r ≡ r′
 one-fresh r r′ p q = p ∙ sym q
 
--- client 7 has no read open, and there are not seven clients
-pub not-open-at-first : (r : Standing) → r ≡ fresh → openBy r (record { 0 = 7 }) ≡ 1 → ⊥
-not-open-at-first r p q = omega (arith, ap (λ (x : Standing). openBy x (record { 0 = 7 })) p)
+-- the last client has no read open, and there are not fewer clients by one
+pub not-open-at-first : (r : Standing) → r ≡ fresh → openBy r (record { 0 = lastClient }) ≡ 1 → ⊥
+not-open-at-first r p q = omega (arith, ap (λ (x : Standing). openBy x (record { 0 = lastClient })) p)
 
-pub not-seven-clients : (r : Standing) → r ≡ fresh → length (r .has) ≡ 7 → ⊥
+pub not-seven-clients : (r : Standing) → r ≡ fresh → length (r .has) ≡ lastClient → ⊥
 not-seven-clients r p q = omega (arith, ap (λ (x : Standing). length (x .has)) p)
 
 -- ---- Standing::fault

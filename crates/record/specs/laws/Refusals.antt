@@ -17,7 +17,7 @@ use Rattle.record.specs.declared.Found.{Found}
 use Rattle.record.specs.declared.Found.the-variants.{At, Fault}
 use Rattle.record.specs.declared.Standing.{Standing}
 use Rattle.record.specs.declared.Answer.the-variants.{Refused}
-use Rattle.record.specs.Entry.{upTo, fieldsAt, entryAt}
+use Rattle.record.specs.Entry.{lastClient, lastCell, upTo, fieldsAt, entryAt}
 use Rattle.record.specs.Record.{entryLimit, fresh, faultAfter, standingAfter, openBy, Held, entries, fault, before, heldFrom, bytesHeld}
 use Rattle.record.specs.laws.Steps.{ends, full, unread, misplaced, onward}
 use Rattle.record.specs.Named.{Named}
@@ -63,7 +63,7 @@ unfolding fieldsAt
 fields-fault s at kind client k p =
     fault-either-way k (eqb kind 3) _ _ (λ q. no-at q)
     (λ q. fault-either-way k (eqb kind 2) _ _ (λ r. then-fault k (numberAt s at) _ (number-fault s at) (λ v next x. no-at x) r)
-    (λ r. then-fault k (upTo 15 25 (numberAt s at)) _ (λ j. limit-fault s at 15 25 j (omega arith, omega arith))
+    (λ r. then-fault k (upTo lastCell 25 (numberAt s at)) _ (λ j. limit-fault s at lastCell 25 j (omega arith, omega arith))
     (λ cell next x. fault-either-way k (eqb kind 0) _ _ (λ y. no-at y) (λ y. then-fault k (numberAt s next) _ (number-fault s next) (λ v last z. no-at z) y) x) r) q) p
 
 -- reading an entry refuses with 21 to 25
@@ -71,7 +71,7 @@ pub entry-faults : (s : List ℕ) (at k : ℕ) → entryAt s at ≡ Fault k → 
 unfolding entryAt
 entry-faults s at k p =
     then-fault k (upTo 3 24 (numberAt s at)) _ (λ j. limit-fault s at 3 24 j (omega arith, omega arith))
-    (λ kind next q. then-fault k (upTo 7 25 (numberAt s next)) _ (λ j. limit-fault s next 7 25 j (omega arith, omega arith))
+    (λ kind next q. then-fault k (upTo lastClient 25 (numberAt s next)) _ (λ j. limit-fault s next lastClient 25 j (omega arith, omega arith))
     (λ client more r. fields-fault s more kind client k r) q) p
 
 unless : (t : Bool) (k : ℕ) → 26 ≤ k → k ≤ 27 → (cond t 0 k ≡ 0 → ⊥) → (26 ≤ cond t 0 k) × (cond t 0 k ≤ 27)
@@ -135,6 +135,6 @@ module _ (more : ℕ → Bool) (found : ℕ → Found) (low : ℕ) (early : low 
       go true h (At e next) g ih = checked (eqb (faultAfter st e) 0) e next h g refl ih
 
 -- bytes hold a fault from 21 to 28
-pub record-faults : (s : List ℕ) (k n : ℕ) → bytesHeld s ≡ fault k n → Named 21 k n 2048
+pub record-faults : (s : List ℕ) (k n : ℕ) → bytesHeld s ≡ fault k n → Named 21 k n entryLimit
 unfolding bytesHeld
 record-faults s k n p = named (λ at. ltb at (length s)) (entryAt s) 21 (omega arith) (entry-faults s) entryLimit 0 0 fresh k n p

@@ -12,10 +12,10 @@ use Rattle.record.specs.declared.Entry.{Entry}
 use Rattle.record.specs.declared.Found.{Found}
 use Rattle.record.specs.declared.Found.the-variants.{At}
 use Rattle.record.specs.declared.Standing.{Standing}
-use Rattle.record.specs.Entry.{entryBytes, entryAt}
-use Rattle.record.specs.Record.{entryLimit, fresh, standingAfter, entries, before, heldFrom, bytesHeld, allOf, bytesOf}
+use Rattle.record.specs.Entry.{longestEntry, entryBytes, entryAt}
+use Rattle.record.specs.Record.{longestRecord, entryLimit, fresh, standingAfter, entries, before, heldFrom, bytesHeld, allOf, bytesOf}
 use Rattle.record.specs.Legal.{InRange, Follows, Legal}
-use Rattle.number.specs.Below.{Below, Bytes}
+use Rattle.number.specs.Below.{byteLimit, Below, Bytes}
 use Rattle.record.specs.laws.Steps.{ends, onward, first, empty}
 use Rattle.record.specs.laws.EntryTrip.{reads-entry, written-entry, entry-some, entry-few, below-none, below-append, entry-bytes}
 
@@ -100,13 +100,13 @@ write-of-read s es h p = sym (written-from s h es entryLimit 0 0 fresh p)
 
 -- ---- how long a record is
 
-bytes-few : (es : List Entry) (st : Standing) → Follows st es → length (bytesOf es) ≤ 8 * length es
+bytes-few : (es : List Entry) (st : Standing) → Follows st es → length (bytesOf es) ≤ longestEntry * length es
 unfolding allOf
 bytes-few [] st h = omega arith
 bytes-few (e ∷ es) st h = simp length-append (omega (arith, entry-few e (h .0), bytes-few es (standingAfter st e) (h .2)))
 
--- a record takes 16,384 bytes at most, eight for each entry
-pub record-few : (es : List Entry) → Legal es → length (bytesOf es) ≤ 16384
+-- a record is no longer than the longest, as many as its entries may take together
+pub record-few : (es : List Entry) → Legal es → length (bytesOf es) ≤ longestRecord
 record-few es l = omega (arith, bytes-few es fresh (l .follows), l .few)
 
 -- what holds of each entry's numbers holds of all
@@ -117,4 +117,4 @@ all-below m f z h (e ∷ es) st g = below-append m (f e) (allOf f es) (h e (g .0
 
 -- each of its bytes is a byte
 pub record-bytes : (es : List Entry) → Legal es → Bytes (bytesOf es)
-record-bytes es l = all-below 256 entryBytes (omega arith) entry-bytes es fresh (l .follows)
+record-bytes es l = all-below byteLimit entryBytes (omega arith) entry-bytes es fresh (l .follows)

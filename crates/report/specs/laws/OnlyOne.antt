@@ -8,12 +8,12 @@ use Rattle.number.specs.Wrote.{Wrote}
 use Rattle.text.specs.Text.{digitsOf}
 use Rattle.verdict.specs.declared.Verdict.{Verdict}
 use Rattle.verdict.specs.declared.Verdict.the-variants.{Lawful, Refused}
-use Rattle.report.specs.Line.{lineOf}
+use Rattle.report.specs.Line.{lineRoom, lineOf}
 use Rattle.report.specs.Examples.{room}
 
 -- what is answered and what stands in the lent bytes afterwards
-pub only-one : (before : List ℕ) (v : Verdict) {r s : ℕ} {after other : List ℕ} → Wrote before 0 (lineOf v) r after × (r ≤ 64)
-    → Wrote before 0 (lineOf v) s other × (s ≤ 64) → (r ≡ s) × (after ≡ other)
+pub only-one : (before : List ℕ) (v : Verdict) {r s : ℕ} {after other : List ℕ} → Wrote before 0 (lineOf v) r after × (r ≤ lineRoom)
+    → Wrote before 0 (lineOf v) s other × (s ≤ lineRoom) → (r ≡ s) × (after ≡ other)
 only-one before v a b = (a .0 .place ∙ sym (b .0 .place), a .0 .list ∙ sym (b .0 .list))
 
 -- `lawful` has its line feed: it isn't six bytes

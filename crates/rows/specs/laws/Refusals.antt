@@ -7,6 +7,7 @@ use mathlib.Core.Logic.{inl, inr}
 use native.Mathlib.Omega.{arith}
 use lib.ListN.{length, getD}
 use lib.Dec.{ltb, leb}
+use Rattle.record.specs.Entry.{lastClient, lastCell}
 use Rattle.record.specs.declared.Entry.{Entry}
 use Rattle.record.specs.declared.Found.the-variants.{At, Fault}
 use Rattle.record.specs.declared.Answer.the-variants.{All, Refused}
@@ -21,7 +22,7 @@ use Rattle.rows.specs.Refusal.{Refusal}
 -- a row with 24 or 25
 pub row-faults : (ws : List ℕ) (at k : ℕ) → rowAt ws at ≡ Fault k → (24 ≤ k) × (k ≤ 25)
 unfolding rowAt rowFound
-row-faults ws at k p = go (ltb 3 (getD ws at 0)) (ltb 7 (getD ws (at + 1) 0) || (ltb (getD ws at 0) 2 && ltb 15 (getD ws (at + 2) 0))) _ p
+row-faults ws at k p = go (ltb 3 (getD ws at 0)) (ltb lastClient (getD ws (at + 1) 0) || (ltb (getD ws at 0) 2 && ltb lastCell (getD ws (at + 2) 0))) _ p
   where
     go : (t u : Bool) (e : Entry) → cond t (Fault 24) (cond u (Fault 25) (At e (at + 4))) ≡ Fault k → (24 ≤ k) × (k ≤ 25)
     go true u e q = let i : 24 ≡ k = cc in (omega arith, omega arith)
@@ -29,11 +30,11 @@ row-faults ws at k p = go (ltb 3 (getD ws at 0)) (ltb 7 (getD ws (at + 1) 0) || 
     go false false e q = no-at q
 
 -- rows hold a fault from 24 to 28
-pub rows-faults : (ws : List ℕ) (k n : ℕ) → rowsHeld ws ≡ fault k n → Named 24 k n 2048
+pub rows-faults : (ws : List ℕ) (k n : ℕ) → rowsHeld ws ≡ fault k n → Named 24 k n entryLimit
 unfolding rowsHeld
 rows-faults ws k n p = named (λ at. leb (at + 4) (length ws)) (rowAt ws) 24 (omega arith) (row-faults ws) entryLimit 0 0 fresh k n p
 
-of-fault : {low k n : ℕ} → 20 < low → Named low k n 2048 → Refusal low k n
+of-fault : {low k n : ℕ} → 20 < low → Named low k n entryLimit → Refusal low k n
 of-fault h w = record {
   which = inr (w .least);
   most = w .most;

@@ -12,7 +12,7 @@ use Rattle.number.specs.Value.{signedOf}
 use Rattle.record.specs.declared.Entry.{Entry}
 use Rattle.record.specs.declared.Entry.the-variants.{ReadAsked, WriteAsked, Told, Done}
 use Rattle.record.specs.declared.Found.the-variants.{At, Fault}
-use Rattle.record.specs.Entry.{entryBytes}
+use Rattle.record.specs.Entry.{lastClient, lastCell, entryBytes}
 use Rattle.record.specs.Record.{Held, entries, fault, allOf}
 use Rattle.record.specs.laws.Steps.{total, tally}
 use Rattle.record.specs.declared.Answer.the-variants.{All}
@@ -25,34 +25,34 @@ module _ (kind client cell value next : ℕ) where
   unfolding rowFound
   row-24 h = simp (lt-ltb 3 kind h)
 
-  pub row-25-client : kind ≤ 3 → 7 < client → rowFound kind client cell value next ≡ Fault 25
+  pub row-25-client : kind ≤ 3 → lastClient < client → rowFound kind client cell value next ≡ Fault 25
   unfolding rowFound
-  row-25-client h g = simp (le-ltb 3 kind h, lt-ltb 7 client g)
+  row-25-client h g = simp (le-ltb 3 kind h, lt-ltb lastClient client g)
 
-  pub row-25-cell : kind ≤ 3 → client ≤ 7 → kind < 2 → 15 < cell → rowFound kind client cell value next ≡ Fault 25
+  pub row-25-cell : kind ≤ 3 → client ≤ lastClient → kind < 2 → lastCell < cell → rowFound kind client cell value next ≡ Fault 25
   unfolding rowFound
-  row-25-cell h g k l = simp (le-ltb 3 kind h, le-ltb 7 client g, lt-ltb kind 2 k, lt-ltb 15 cell l)
+  row-25-cell h g k l = simp (le-ltb 3 kind h, le-ltb lastClient client g, lt-ltb kind 2 k, lt-ltb lastCell cell l)
 
-  pub row-done : client ≤ 7 → kind ≡ 3 → rowFound kind client cell value next ≡ At (Done (record { 0 = client })) next
+  pub row-done : client ≤ lastClient → kind ≡ 3 → rowFound kind client cell value next ≡ At (Done (record { 0 = client })) next
   unfolding rowFound entryOf
-  row-done g e = simp (e, le-ltb 7 client g)
+  row-done g e = simp (e, le-ltb lastClient client g)
 
-  pub row-told : client ≤ 7 → kind ≡ 2 → rowFound kind client cell value next ≡ At (Told (record { 0 = client }) (signedOf value)) next
+  pub row-told : client ≤ lastClient → kind ≡ 2 → rowFound kind client cell value next ≡ At (Told (record { 0 = client }) (signedOf value)) next
   unfolding rowFound entryOf
-  row-told g e = simp (e, le-ltb 7 client g)
+  row-told g e = simp (e, le-ltb lastClient client g)
 
-  pub row-read : client ≤ 7 → cell ≤ 15 → kind ≡ 0 → rowFound kind client cell value next ≡ At (ReadAsked (record { 0 = client }) (record { 0 = cell })) next
+  pub row-read : client ≤ lastClient → cell ≤ lastCell → kind ≡ 0 → rowFound kind client cell value next ≡ At (ReadAsked (record { 0 = client }) (record { 0 = cell })) next
   unfolding rowFound entryOf
-  row-read g l e = simp (e, le-ltb 7 client g, le-ltb 15 cell l)
+  row-read g l e = simp (e, le-ltb lastClient client g, le-ltb lastCell cell l)
 
-  pub row-write : client ≤ 7 → cell ≤ 15 → kind ≡ 1 → rowFound kind client cell value next ≡ At (WriteAsked (record { 0 = client }) (record { 0 = cell }) (signedOf value)) next
+  pub row-write : client ≤ lastClient → cell ≤ lastCell → kind ≡ 1 → rowFound kind client cell value next ≡ At (WriteAsked (record { 0 = client }) (record { 0 = cell }) (signedOf value)) next
   unfolding rowFound entryOf
-  row-write g l e = simp (e, le-ltb 7 client g, le-ltb 15 cell l)
+  row-write g l e = simp (e, le-ltb lastClient client g, le-ltb lastCell cell l)
 
 -- a row is four numbers long
 pub row-next : (ws : List ℕ) (at : ℕ) (e : Entry) (next : ℕ) → rowAt ws at ≡ At e next → next ≡ at + 4
 unfolding rowAt rowFound
-row-next ws at e next p = go (ltb 3 (getD ws at 0)) (ltb 7 (getD ws (at + 1) 0) || (ltb (getD ws at 0) 2 && ltb 15 (getD ws (at + 2) 0)))
+row-next ws at e next p = go (ltb 3 (getD ws at 0)) (ltb lastClient (getD ws (at + 1) 0) || (ltb (getD ws at 0) 2 && ltb lastCell (getD ws (at + 2) 0)))
     (entryOf (getD ws at 0) (getD ws (at + 1) 0) (getD ws (at + 2) 0) (getD ws (at + 3) 0)) p
   where
     go : (t u : Bool) (f : Entry) → cond t (Fault 24) (cond u (Fault 25) (At f (at + 4))) ≡ At e next → next ≡ at + 4

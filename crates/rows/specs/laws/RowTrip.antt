@@ -8,6 +8,7 @@ use lib.ListN.{drop, getD}
 use lib.Seq.{getD-drop}
 use lib.Dec.{ltb}
 use borrow.Author.Tests.{ltb-true, ltb-false}
+use Rattle.record.specs.Entry.{lastClient, lastCell}
 use Rattle.number.specs.Value.{alternatingOf}
 use Rattle.number.specs.laws.ValueLaws.{signed-alternating, signed-fits}
 use Rattle.record.specs.declared.Entry.{Entry}
@@ -44,19 +45,19 @@ reads-row (Done client) ws at more h e = row-there ws at _ _ _ _ more e ∙ row-
 
 -- a row that gives an entry is within the limits
 module _ (kind client cell value next : ℕ) (e : Entry) (next′ : ℕ) (p : rowFound kind client cell value next ≡ At e next′) where
-  row-client : kind ≤ 3 → client ≤ 7
-  row-client h = go (ltb 7 client) refl
+  row-client : kind ≤ 3 → client ≤ lastClient
+  row-client h = go (ltb lastClient client) refl
     where
-      go : (t : Bool) → ltb 7 client ≡ t → client ≤ 7
-      go true q = never (sym (row-25-client kind client cell value next h (ltb-true 7 client q)) ∙ p)
-      go false q = ltb-false 7 client q
+      go : (t : Bool) → ltb lastClient client ≡ t → client ≤ lastClient
+      go true q = never (sym (row-25-client kind client cell value next h (ltb-true lastClient client q)) ∙ p)
+      go false q = ltb-false lastClient client q
 
-  row-cell : kind < 2 → cell ≤ 15
-  row-cell h = go (ltb 15 cell) refl
+  row-cell : kind < 2 → cell ≤ lastCell
+  row-cell h = go (ltb lastCell cell) refl
     where
-      go : (t : Bool) → ltb 15 cell ≡ t → cell ≤ 15
-      go true q = never (sym (row-25-cell kind client cell value next (omega arith) (row-client (omega arith)) h (ltb-true 15 cell q)) ∙ p)
-      go false q = ltb-false 15 cell q
+      go : (t : Bool) → ltb lastCell cell ≡ t → cell ≤ lastCell
+      go true q = never (sym (row-25-cell kind client cell value next (omega arith) (row-client (omega arith)) h (ltb-true lastCell cell q)) ∙ p)
+      go false q = ltb-false lastCell cell q
 
 in-range : {e e′ : Entry} {next next′ : ℕ} → At e next ≡ At e′ next′ → InRange e → InRange e′
 in-range {e} {e′} p h = let q : e ≡ e′ = cc in subst InRange q h

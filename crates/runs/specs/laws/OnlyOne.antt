@@ -13,7 +13,7 @@ use Rattle.rack.specs.declared.Ran.{Ran}
 use Rattle.method.specs.Plan.{startOf, planOf}
 use Rattle.method.specs.Refusals.{isUnknown, isStart, namesSlot, namesClient, isResend, isDelivery, slotEmpty, clientStopped, alreadyOpen, noneOpen, replicaOff, switchedSo}
 use Rattle.method.specs.Refusals.{opSpent, numberSpent, decisionOf}
-use Rattle.rack.specs.Places.{freeAt, roomOf, sentOf}
+use Rattle.rack.specs.Places.{slotLimit, freeAt, roomOf, sentOf}
 use Rattle.rack.specs.Sound.{settingsFit, owes, owedBy, owedIn, owed}
 use Rattle.method.specs.About.{clientIn, clientOf}
 use Rattle.rack.specs.Run.{freshRack, byte, eventOf, addressed, cleared, recorded, entriesIn, appliedOf, turn, ranOf}
@@ -63,7 +63,7 @@ pub not-always-refused : (q : Ran) → Starts q → 0 < q .refusal → ⊥
 not-always-refused q p h = omega (arith, begun q p .refusal)
 
 -- a rack that does nothing
-pub not-idle : (q : Ran) → Starts q → roomOf (q .rack .wire) ≡ 256 → ⊥
+pub not-idle : (q : Ran) → Starts q → roomOf (q .rack .wire) ≡ slotLimit → ⊥
 not-idle q p h = omega (arith, begun q p .room)
 
 -- an engine that records nothing

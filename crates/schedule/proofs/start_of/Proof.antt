@@ -3,16 +3,16 @@ use Prim.Native.Nat.{_-_, _≤_}
 use borrow.Author.Needs.{needs}
 use Rattle.slots.specs.Words.{Maps}
 use Rattle.slots.specs.laws.UpTo.{freeBelow, upto-start}
-use Rattle.rack.specs.Places.{freeAt, roomOf}
+use Rattle.rack.specs.Places.{slotLimit, freeAt, roomOf}
 use Rattle.runs.specs.laws.Sending.{map-next, map-all}
 use Rattle.schedule.proofs.start_of.Statement.{statement}
 use Rattle.schedule.proofs.start_of.Tie as tie
 
 abbrev Inv-loop : tie.InvT-loop
-Inv-loop rack free₀ i₀ free i = (i ≤ 256) × (Maps (freeBelow i (freeAt (rack .wire))) free)
+Inv-loop rack free₀ i₀ free i = (i ≤ slotLimit) × (Maps (freeBelow i (freeAt (rack .wire))) free)
 
 abbrev μ-loop : tie.MeasureT-loop
-μ-loop rack free₀ i₀ free i = 256 - i
+μ-loop rack free₀ i₀ free i = slotLimit - i
 
 loop-holds : tie.Need-loop-holds Inv-loop μ-loop
 loop-holds c = (search needs, upto-start _)

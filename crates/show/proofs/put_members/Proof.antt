@@ -11,10 +11,10 @@ use Rattle.show.proofs.put_members.Statement.{statement}
 use Rattle.show.proofs.put_members.Tie as tie
 
 abbrev Inv-loop : tie.InvT-loop
-Inv-loop out₀ at set next₀ k₀ out next k = (k ≤ 16) × Printed out₀ at (eachBelow k (λ j. memberText set j)) next out
+Inv-loop out₀ at set next₀ k₀ out next k = (k ≤ setBits) × Printed out₀ at (eachBelow k (λ j. memberText set j)) next out
 
 abbrev μ-loop : tie.MeasureT-loop
-μ-loop out₀ at set next₀ k₀ out next k = 16 - k
+μ-loop out₀ at set next₀ k₀ out next k = setBits - k
 
 slice-aggregate-put-words : tie.Need-slice-aggregate-put-words Inv-loop μ-loop
 slice-aggregate-put-words c = search needs
@@ -29,18 +29,23 @@ returns : tie.Need-returns Inv-loop μ-loop
 returns c = rw (eq-eqb _ 0 (c .before .before .before .before .before .if1 .taken)) (c .before .before .put-words .ensures)
 
 loop-holds : tie.Need-loop-holds Inv-loop μ-loop
+unfolding setBits
 loop-holds c = (search needs, each-none _)
 
 put-member-requires : tie.Need-put-member-requires Inv-loop μ-loop
+unfolding setBits
 put-member-requires c κs = search needs
 
 add-k : tie.Need-add-k Inv-loop μ-loop
+unfolding setBits
 add-k c = search needs
 
 loop-less : tie.Need-loop-less Inv-loop μ-loop
+unfolding setBits
 loop-less c = search needs
 
 loop-again : tie.Need-loop-again Inv-loop μ-loop
+unfolding setBits
 loop-again c = (search needs, each-next _ _ (c .before .before .before .before .before .loop .inv .1) (c .before .before .put-member .ensures))
 
 same-length-2 : tie.Need-same-length-2 Inv-loop μ-loop

@@ -4,14 +4,14 @@ use mathlib.Core.Path.{_≡_, ap, _∙_}
 use mathlib.Core.Bool.{Bool}
 use native.Mathlib.Omega.{arith}
 use borrow.Author.Needs.{needs}
-use Rattle.slots.specs.Free.{mapWords, countFrom}
+use Rattle.slots.specs.Free.{wordBits, mapWords, countFrom}
 use Rattle.slots.specs.Words.{Maps}
 use Rattle.slots.proofs.Laws.{counted, count-none}
 use Rattle.slots.proofs.count.Statement.{statement}
 use Rattle.slots.proofs.count.Tie as tie
 
 abbrev Inv-loop : tie.InvT-loop
-Inv-loop free total₀ i₀ total i = (i ≤ mapWords) × (total ≤ 64 * i) × ((f : ℕ → Bool) → Maps f free → total ≡ countFrom (64 * i) 0 f)
+Inv-loop free total₀ i₀ total i = (i ≤ mapWords) × (total ≤ wordBits * i) × ((f : ℕ → Bool) → Maps f free → total ≡ countFrom (wordBits * i) 0 f)
 
 abbrev μ-loop : tie.MeasureT-loop
 μ-loop free total₀ i₀ total i = mapWords - i

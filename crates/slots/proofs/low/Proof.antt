@@ -4,14 +4,15 @@ use native.Mathlib.Omega.{arith}
 use borrow.Author.Needs.{needs}
 use lib.Count.{trailing-le}
 use Rattle.slots.specs.laws.Bits.{trailing-lt}
+use Rattle.slots.specs.Free.{wordBits}
 use Rattle.slots.proofs.low.Statement.{statement}
 use Rattle.slots.proofs.low.Tie as tie
 
 cast-result : tie.Need-cast-result
-cast-result c = record { fits = omega (arith, trailing-le 64 (c .args .x)) }
+cast-result c = record { fits = omega (arith, trailing-le wordBits (c .args .x)) }
 
 returns : tie.Need-returns
-returns c = (refl, trailing-lt 64 (c .args .x) (search needs) (c .pre))
+returns c = (refl, trailing-lt wordBits (c .args .x) (search needs) (c .pre))
 
 pub low-spec : {M : Type 1} → statement M
 low-spec = tie.close (tie.spec cast-result returns)

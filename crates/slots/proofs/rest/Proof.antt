@@ -1,5 +1,6 @@
 -- `slots::rest` meets its contract.
 use borrow.Author.Needs.{needs}
+use Rattle.slots.specs.Free.{wordBits}
 use Rattle.slots.proofs.Laws.{one-shl}
 use Rattle.slots.specs.laws.Bits.{trailing-room}
 use Rattle.slots.proofs.rest.Statement.{statement}
@@ -12,7 +13,7 @@ shl-result : tie.Need-shl-result
 shl-result c = search needs
 
 sub-result : tie.Need-sub-result
-sub-result c = rw (one-shl (c .low .result) (c .low .ensures .1), c .low .ensures .0) (trailing-room 64 (c .before .args .x) (c .before .pre))
+sub-result c = rw (one-shl (c .low .result) (c .low .ensures .1), c .low .ensures .0) (trailing-room wordBits (c .before .args .x) (c .before .pre))
 
 returns : tie.Need-returns
 returns c = rw (one-shl (c .low .result) (c .low .ensures .1), c .low .ensures .0)

@@ -6,11 +6,11 @@ use mathlib.Core.List.{List, [], _∷_}
 use mathlib.Core.Path.{_≡_, ap, sym, _∙_}
 use native.Mathlib.Omega.{arith}
 use lib.ListN.{getD}
-use Rattle.slots.specs.Free.{mapWords, slotCount, firstFree, countFree, takenAt, givenAt, markedAt}
+use Rattle.slots.specs.Free.{wordBits, mapWords, slotCount, firstFree, countFree, takenAt, givenAt, markedAt}
 use Rattle.slots.specs.Words.{bitsFrom, Maps, Took, bitAt, freeIn}
 use Rattle.slots.specs.laws.Finding.{tied-same, tied-only, tied-some}
 use Rattle.slots.specs.laws.Sheet.{lowest-of-6, count-of-6}
-use Rattle.slots.specs.Same.{Sized, SameTake, Given}
+use Rattle.slots.specs.Same.{oneAndTwo, Sized, SameTake, Given}
 
 pub tied-words : (ws : List ℕ) → Sized ws → Maps (freeIn ws) ws
 tied-words ws s = tied-some mapWords ws (s .size) (s .each)
@@ -26,16 +26,16 @@ pub one-count : (free : List ℕ) → Sized free → (r r′ : ℕ) → (r ≤ s
 one-count free s r r′ p q = p .1 (freeIn free) (tied-words free s) ∙ sym (q .1 (freeIn free) (tied-words free s))
 
 -- of slots 1 and 2 the lowest is neither 0 nor 2, and they are not one
-pub not-slot-0 : (r : ℕ) → r ≡ firstFree (freeIn (6 ∷ 0 ∷ 0 ∷ 0 ∷ [])) → r ≡ 0 → ⊥
+pub not-slot-0 : (r : ℕ) → r ≡ firstFree (freeIn oneAndTwo) → r ≡ 0 → ⊥
 not-slot-0 r p q = omega (arith, lowest-of-6)
 
-pub not-slot-2 : (r : ℕ) → r ≡ firstFree (freeIn (6 ∷ 0 ∷ 0 ∷ 0 ∷ [])) → r ≡ 2 → ⊥
+pub not-slot-2 : (r : ℕ) → r ≡ firstFree (freeIn oneAndTwo) → r ≡ 2 → ⊥
 not-slot-2 r p q = omega (arith, lowest-of-6)
 
-pub not-one-free : (r : ℕ) → r ≡ countFree (freeIn (6 ∷ 0 ∷ 0 ∷ 0 ∷ [])) → r ≡ 1 → ⊥
+pub not-one-free : (r : ℕ) → r ≡ countFree (freeIn oneAndTwo) → r ≡ 1 → ⊥
 not-one-free r p q = omega (arith, count-of-6)
 
-pub not-three-free : (r : ℕ) → r ≡ countFree (freeIn (6 ∷ 0 ∷ 0 ∷ 0 ∷ [])) → r ≡ 3 → ⊥
+pub not-three-free : (r : ℕ) → r ≡ countFree (freeIn oneAndTwo) → r ≡ 3 → ⊥
 not-three-free r p q = omega (arith, count-of-6)
 
 -- ---- take
@@ -55,14 +55,14 @@ pub one-take : (free : List ℕ) → Sized free → (r r′ : ℕ) (after after�
 one-take free s r r′ after after′ p q = took-same (freeIn free) r r′ after after′ (p .1 (freeIn free) (tied-words free s)) (q .1 (freeIn free) (tied-words free s))
 
 -- where slots 1 and 2 are free, neither slot 2 is taken, nor is slot 1 free after
-pub not-second-taken : (ws : List ℕ) (r : ℕ) → Took (freeIn (6 ∷ 0 ∷ 0 ∷ 0 ∷ [])) ws r → r ≡ 2 → ⊥
+pub not-second-taken : (ws : List ℕ) (r : ℕ) → Took (freeIn oneAndTwo) ws r → r ≡ 2 → ⊥
 not-second-taken ws r t q = omega (arith, t .slot, lowest-of-6)
 
-pub not-free-after : (ws : List ℕ) (r : ℕ) → Took (freeIn (6 ∷ 0 ∷ 0 ∷ 0 ∷ [])) ws r → getD ws 0 0 ≡ 6 → ⊥
+pub not-free-after : (ws : List ℕ) (r : ℕ) → Took (freeIn oneAndTwo) ws r → getD ws 0 0 ≡ 6 → ⊥
 unfolding bitsFrom takenAt freeIn bitAt
 not-free-after ws r t q =
     let e : r ≡ 1 = t .slot ∙ lowest-of-6 in
-    let w : getD ws 0 0 ≡ 4 = t .left .words 0 (omega arith) ∙ ap (λ (i : ℕ). bitsFrom 64 0 (takenAt (freeIn (6 ∷ 0 ∷ 0 ∷ 0 ∷ [])) i)) e in
+    let w : getD ws 0 0 ≡ 4 = t .left .words 0 (omega arith) ∙ ap (λ (i : ℕ). bitsFrom wordBits 0 (takenAt (freeIn oneAndTwo) i)) e in
     omega arith
 
 -- ---- give, mark
@@ -88,10 +88,10 @@ one-mark free s slot clear after after′ p q =
     tied-only mapWords (markedAt clear (freeIn free) slot) after after′ (p (freeIn free) (tied-words free s)) (q (freeIn free) (tied-words free s))
 
 -- a slot that is clear is free again, and one that isn't stays as it was
-pub not-unmarked : (ws : List ℕ) → Maps (markedAt true (freeIn (6 ∷ 0 ∷ 0 ∷ 0 ∷ [])) 5) ws → getD ws 0 0 ≡ 6 → ⊥
+pub not-unmarked : (ws : List ℕ) → Maps (markedAt true (freeIn oneAndTwo) 5) ws → getD ws 0 0 ≡ 6 → ⊥
 unfolding bitsFrom givenAt freeIn bitAt
 not-unmarked ws t q = let e : getD ws 0 0 ≡ 38 = t .words 0 (omega arith) in omega arith
 
-pub not-marked : (ws : List ℕ) → Maps (markedAt false (freeIn (6 ∷ 0 ∷ 0 ∷ 0 ∷ [])) 5) ws → getD ws 0 0 ≡ 38 → ⊥
+pub not-marked : (ws : List ℕ) → Maps (markedAt false (freeIn oneAndTwo) 5) ws → getD ws 0 0 ≡ 38 → ⊥
 unfolding bitsFrom freeIn bitAt
 not-marked ws t q = let e : getD ws 0 0 ≡ 6 = t .words 0 (omega arith) in omega arith

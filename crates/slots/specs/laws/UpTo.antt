@@ -7,7 +7,7 @@ use native.Mathlib.Omega.{arith}
 use lib.Dec.{ltb, eqb}
 use lib.ListN.{replicate, getD-replicate}
 use borrow.Author.Tests.{lt-ltb, le-ltb, ltb-true, ltb-false, eqb-true, eqb-false}
-use Rattle.slots.specs.Free.{mapWords, slotCount, markedAt}
+use Rattle.slots.specs.Free.{wordBits, mapWords, slotCount, markedAt}
 use Rattle.slots.specs.Words.{bitsFrom, Maps}
 use Rattle.slots.specs.laws.FreeLaws.{given-here, given-else}
 use Rattle.slots.specs.laws.Finding.{tied-same}
@@ -56,7 +56,7 @@ none-bits (suc n) b f = rw (upto-above 0 f b (omega arith), none-bits n (b + 1) 
 
 -- words of zeros say that no slot is free
 pub upto-start : (f : ℕ → Bool) → Maps (freeBelow 0 f) (replicate mapWords 0)
-upto-start f = record { size = refl; words = λ j h. getD-replicate mapWords j 0 0 h ∙ sym (none-bits 64 (64 * j) f) }
+upto-start f = record { size = refl; words = λ j h. getD-replicate mapWords j 0 0 h ∙ sym (none-bits wordBits (wordBits * j) f) }
 
 -- with slot i marked they are right up to the next
 pub upto-next : (i : ℕ) (f : ℕ → Bool) (ws : List ℕ) → Maps (markedAt (f i) (freeBelow i f) i) ws → Maps (freeBelow (i + 1) f) ws

@@ -5,14 +5,15 @@ use borrow.Author.Needs.{needs}
 use lib.ListN.{getD}
 use mathlib.Core.Path.{_≡_, sym, ap, _∙_}
 use native.Mathlib.Omega.{arith}
+use Rattle.record.specs.Entry.{cellLimit}
 use Rattle.verdict.proofs.lowest.Statement.{statement}
 use Rattle.verdict.proofs.lowest.Tie as tie
 
 abbrev Inv-loop : tie.InvT-loop
-Inv-loop bad c₀ c = (c ≤ 16) × ((d : ℕ) → d < c → getD bad d 0 ≡ 0)
+Inv-loop bad c₀ c = (c ≤ cellLimit) × ((d : ℕ) → d < c → getD bad d 0 ≡ 0)
 
 abbrev μ-loop : tie.MeasureT-loop
-μ-loop bad c₀ c = 16 - c
+μ-loop bad c₀ c = cellLimit - c
 
 loop-holds : tie.Need-loop-holds Inv-loop μ-loop
 loop-holds c = (omega arith, λ d l. absurd (omega arith))

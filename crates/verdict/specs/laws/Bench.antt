@@ -12,7 +12,7 @@ use Rattle.number.specs.Number.{taken, lastOf, valueOf, numberOf, numberAt, and
 use Rattle.number.specs.Value.{alternatingOf, signedOf}
 use Rattle.record.specs.declared.Cell.{Cell}
 use Rattle.record.specs.declared.Entry.{Entry}
-use Rattle.number.specs.Below.{Bytes}
+use Rattle.number.specs.Below.{byteLimit, Bytes}
 use Rattle.record.specs.Entry.{upTo, fieldsAt, entryAt}
 use Rattle.record.specs.Record.{entries, faultAfter, standingAfter, before, enter, heldFrom, bytesHeld}
 use Rattle.record.specs.Examples.{sheetBytes}
@@ -21,7 +21,7 @@ use Rattle.law.specs.Operation.{operations}
 use Rattle.law.specs.Order.{Lawful}
 use Rattle.law.specs.Part.{partFrom, partOf}
 use Rattle.law.specs.laws.Sheet.{empty-lawful, good, good-lawful, bad, bad-cell}
-use Rattle.pairs.specs.Pairs.{byteLimit}
+use Rattle.pairs.specs.Pairs.{decidingBytes}
 use Rattle.pairs.specs.laws.Enough.{enough}
 use Rattle.verdict.specs.declared.Verdict.{Verdict}
 use Rattle.verdict.specs.declared.Verdict.the-variants.{Lawful as saysLawful, Unlawful as saysUnlawful, Refused as saysRefused}
@@ -32,7 +32,7 @@ use Rattle.verdict.specs.laws.Sheet.{twice}
 use Rattle.verdict.specs.Examples.{stale}
 
 -- the first 16,385 bytes of any input decide the verdict on it
-pub decides : (s : List ℕ) → takenFor (take byteLimit s) ≡ takenFor s
+pub decides : (s : List ℕ) → takenFor (take decidingBytes s) ≡ takenFor s
 unfolding takenFor
 decides s = ap distinct (enough s)
 
@@ -41,7 +41,7 @@ decides s = ap distinct (enough s)
 -- numbers that are bytes
 unfoldable pub allBytes : List ℕ → Bool
 allBytes [] = true
-allBytes (b ∷ s) = ltb b 256 && allBytes s
+allBytes (b ∷ s) = ltb b byteLimit && allBytes s
 
 both : (t u : Bool) → (t && u) ≡ true → (t ≡ true) × (u ≡ true)
 both true u e = (refl, e)
@@ -50,8 +50,8 @@ both false u e = let z : _≡_ {A = ℕ} 0 1 = cc in absurd (omega arith)
 all-bytes : (s : List ℕ) → allBytes s ≡ true → Bytes s
 unfolding allBytes
 all-bytes [] e i = omega arith
-all-bytes (b ∷ s) e zero = ltb-true b 256 (both (ltb b 256) (allBytes s) e .0)
-all-bytes (b ∷ s) e (suc i) = all-bytes s (both (ltb b 256) (allBytes s) e .1) i
+all-bytes (b ∷ s) e zero = ltb-true b byteLimit (both (ltb b byteLimit) (allBytes s) e .0)
+all-bytes (b ∷ s) e (suc i) = all-bytes s (both (ltb b byteLimit) (allBytes s) e .1) i
 
 -- the right verdict is the only one
 pub no-other : (s : List ℕ) → allBytes s ≡ true → (v : Verdict) → Judges (takenFor s) v → (w : Verdict) → Judges (takenFor s) w → w ≡ v

@@ -4,6 +4,8 @@ use mathlib.Core.Path.{_≡_, refl, sym, _∙_, subst}
 use mathlib.Core.List.{List}
 use native.Mathlib.Omega.{arith}
 use lib.ListN.{length, getD}
+use Rattle.number.specs.Below.{byteLimit}
+use Rattle.record.specs.Entry.{cellLimit}
 use Rattle.record.specs.declared.Entry.{Entry}
 use Rattle.record.specs.declared.Answer.{Answer}
 use Rattle.record.specs.declared.Answer.the-variants.{All, Refused}
@@ -28,9 +30,9 @@ use Rattle.record.specs.laws.Trip.{reading-legal}
 
 -- r is the lowest cell whose operations have no lawful order, 16 if there is none
 pub record LowestOf (ops : List Op) (r : ℕ) : Type 0 where
-  pub within : r ≤ 16
+  pub within : r ≤ cellLimit
   pub below : (c : ℕ) → c < r → Lawful (ofCell c ops)
-  pub unlawful : r < 16 → ¬ Lawful (ofCell r ops)
+  pub unlawful : r < cellLimit → ¬ Lawful (ofCell r ops)
 
 -- whatever operations the arrays hold
 abbrev pub Settles : Arrays → ℕ → ℕ → Type 0
@@ -63,11 +65,11 @@ module _ (a : Arrays) (n : ℕ) (es : List Entry) (legal : Legal es) (count : le
     taken = distinct-none a es (all-shown a es legal held) (λ p l. fresh p (omega (arith, l, count)))
 
     -- no cell has a fault
-    pub judges-lawful : 16 ≤ r → Judges (distinct (entries es)) saysLawful
+    pub judges-lawful : cellLimit ≤ r → Judges (distinct (entries es)) saysLawful
     judges-lawful b = (es, (taken, record-locality-16 es legal .1 (λ c l. part-lawful c es legal .0 (low .below c (omega arith)))))
 
     -- the lowest cell that has one
-    pub judges-unlawful : r < 16 → Judges (distinct (entries es)) (saysUnlawful (record { 0 = r }))
+    pub judges-unlawful : r < cellLimit → Judges (distinct (entries es)) (saysUnlawful (record { 0 = r }))
     judges-unlawful b = (
       es,
       (
@@ -91,7 +93,7 @@ module _ (s : List ℕ) (kinds cells values starts : List ℕ) (r : Answer) (p :
       go (entries es) q = let z : _≡_ {A = ℕ} 0 1 = cc in absurd (omega arith)
       go (fault i j) q = let x : i ≡ k = cc in let y : j ≡ n = cc in cc
 
-  module _ (bytes : (i : ℕ) → getD s i 0 < 256) (n : ℕ) (all : r ≡ All n) where
+  module _ (bytes : (i : ℕ) → getD s i 0 < byteLimit) (n : ℕ) (all : r ≡ All n) where
     -- the entries that the bytes hold
     record-of : (es : List Entry) × ((bytesHeld s ≡ entries es) × (length es ≡ n))
     unfolding surveyOf

@@ -1,6 +1,7 @@
 -- Only one verdict is right, and each says exactly what it means.
 use mathlib.Core.Path.{_≡_, refl, ap, subst}
 use mathlib.Core.List.{List, [], _∷_}
+use Rattle.record.specs.Entry.{cellLimit}
 use Rattle.record.specs.declared.Entry.{Entry}
 use Rattle.record.specs.Record.{Held, entries, fault, bytesHeld}
 use Rattle.record.specs.Legal.{Legal}
@@ -47,8 +48,8 @@ pub lawful-no-lowest : (es : List Entry) → Legal es → (c : ℕ) → Lawful (
 lawful-no-lowest es h c l m = m .unlawful (record-locality es h .0 l c)
 
 -- it is one of the sixteen
-pub lowest-below : (es : List Entry) → Legal es → (c : ℕ) → LowestCell es c → c < 16
-lowest-below es h c m = elim (decLt c 16) [
+pub lowest-below : (es : List Entry) → Legal es → (c : ℕ) → LowestCell es c → c < cellLimit
+lowest-below es h c m = elim (decLt c cellLimit) [
   | yes b ↦ b
   | no b ↦ absurd (lawful-no-lowest es h c (record-locality-16 es h .1 (λ d l. m .below d (omega (arith, b, l)))) m)
 ]

@@ -7,7 +7,7 @@ use native.Mathlib.Omega.{arith}
 use lib.ListN.{length}
 use lib.Dec.{leb}
 use borrow.Author.Needs.{needs}
-use Rattle.record.specs.Record.{faultAfter, standingAfter}
+use Rattle.record.specs.Record.{entryLimit, faultAfter, standingAfter}
 use Rattle.record.specs.declared.Entry.{Entry}
 use Rattle.record.specs.declared.Standing.{Standing}
 use Rattle.record.specs.declared.Found.the-variants.{At}
@@ -23,7 +23,7 @@ use Rattle.writer.proofs.measure.Tie as tie
 -- a row more is counted
 measures-on : (rows : List ℕ) (n sum : ℕ) (st st′ : Standing) (e : Entry) (next long : ℕ)
     → Counting (λ i. leb (i + 4) (length rows)) (rowAt rows) (λ f. length (entryBytes f)) (rowsHeld rows) (4 * n) n sum st
-    → n < length rows / 4 → (n ≡ 2048 → ⊥) → rowAt rows (4 * n) ≡ At e next → faultAfter st e ≡ 0 → st′ ≡ standingAfter st e → long ≡ length (entryBytes e)
+    → n < length rows / 4 → (n ≡ entryLimit → ⊥) → rowAt rows (4 * n) ≡ At e next → faultAfter st e ≡ 0 → st′ ≡ standingAfter st e → long ≡ length (entryBytes e)
     → Counting (λ i. leb (i + 4) (length rows)) (rowAt rows) (λ f. length (entryBytes f)) (rowsHeld rows) (4 * (n + 1)) (n + 1) (sum + long) st′
 measures-on rows n sum st st′ e next long k l m f z p q =
     let place : next ≡ 4 * (n + 1) = row-next rows (4 * n) e next f ∙ omega arith in
@@ -34,14 +34,14 @@ Inv-loop rows whole st₀ n₀ sum₀ st n sum =
     Counting (λ i. leb (i + 4) (length rows)) (rowAt rows) (λ e. length (entryBytes e)) (rowsHeld rows) (4 * n) n sum st × (sum ≤ 20 * n)
 
 abbrev μ-loop : tie.MeasureT-loop
-μ-loop rows whole st₀ n₀ sum₀ st n sum = 2048 - n
+μ-loop rows whole st₀ n₀ sum₀ st n sum = entryLimit - n
 
 fresh-requires : tie.Need-fresh-requires Inv-loop μ-loop
 fresh-requires c κs = search needs
 
 loop-holds : tie.Need-loop-holds Inv-loop μ-loop
 unfolding rowsHeld
-loop-holds c = rw (c .fresh .ensures) (record { left = 2048; limit = refl; same = refl }, omega arith)
+loop-holds c = rw (c .fresh .ensures) (record { left = entryLimit; limit = refl; same = refl }, omega arith)
 
 returns : tie.Need-returns Inv-loop μ-loop
 returns c = counts-full _ _ _ _ _ _ _ _ (c .before .before .loop .inv .0) (more-rows (c .before .before .before .before .before .args .rows .now) _ (c .before .loop-test .taken))
