@@ -21,7 +21,6 @@ use Rattle.rack.specs.Sound.{soundOf}
 use Rattle.rack.specs.Run.{madeOf, ranOf, runOf}
 use Rattle.lines.specs.Lines.{ranText, faultLine}
 use Rattle.play.specs.Play.{startedOf, playedOf, textAfter, drillText, bytesAfter, recordBytesOf, answerAfter, recordedOf, Records}
-use Rattle.play.specs.declared.Recorded.{Recorded}
 use Rattle.play.specs.declared.Recorded.the-variants.{Fault, Run}
 
 pub sound-made : (replicas clients cells : ℕ) (m : Made) → m ≡ madeOf replicas clients cells → soundOf (m .rack) ≡ true

@@ -1,7 +1,8 @@
 // The replicas that have answered: a set, one bit each, and the ones are counted.
 ghost use mathlib.Core.Path.{_≡_};
 ghost use Prim.Native.Nat.{_≤_, _<_};
-ghost use Rattle.quorum.specs.Sets.{setBits, hasReplica, withReplica, countOf, asksEnough, keepsEnough, everyReplica, others, within, withoutReplica, majority, lowestOf, restOf};
+ghost use Rattle.quorum.specs.Sets.{setBits, hasReplica, withReplica, countOf, asksEnough, keepsEnough, everyReplica, others, within, withoutReplica, majority, lowestOf};
+ghost use Rattle.quorum.specs.Sets.{restOf};
 use record::Replica;
 
 // What a rack's quorums follow from: how many replicas it has. More than half of them are enough, in either phase.

@@ -1,6 +1,6 @@
 -- Where the parts of a rack stand.
 use Prim.Native.Nat.{ℕ, _+_, _*_}
-use mathlib.Core.Bool.{Bool, true, false}
+use mathlib.Core.Bool.{Bool, false}
 use mathlib.Core.List.{List, [], _∷_, map}
 use lib.ListN.{getD, set, take}
 use Rattle.record.specs.declared.Entry.{Entry}

@@ -18,7 +18,6 @@ use Rattle.method.specs.declared.Goal.{Goal}
 use Rattle.method.specs.declared.Goal.the-variants.{Read, Write}
 use Rattle.method.specs.declared.Holding.the-variants.{Holds}
 use Rattle.method.specs.declared.Phase.the-variants.{Asking}
-use Rattle.method.specs.declared.Work.{Work}
 use Rattle.method.specs.declared.Work.the-variants.{Idle, Open}
 use Rattle.method.specs.declared.Party.{Party}
 use Rattle.method.specs.declared.Event.{Event}

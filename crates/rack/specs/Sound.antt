@@ -4,7 +4,7 @@ use mathlib.Core.List.{List}
 use lib.ListN.{getD}
 use Rattle.method.specs.declared.Party.{Party}
 use Rattle.rack.specs.Places.{idle, slotLimit, replicaLimit, partyAt, pairAt, heldAt}
-use mathlib.Core.Bool.{Bool, true, cond, not, _&&_, _||_}
+use mathlib.Core.Bool.{Bool, true, cond, not, _&&_}
 use lib.Dec.{ltb, leb, eqb}
 use Rattle.record.specs.Entry.{clientLimit, cellLimit}
 use Rattle.record.specs.Record.{entryLimit}

@@ -9,7 +9,7 @@ use Rattle.script.specs.declared.Words.{Words}
 use Rattle.script.specs.declared.Words.the-variants.{Are, Refused}
 use Rattle.script.specs.Script.{scriptOf}
 use Rattle.play.specs.declared.Recorded.{Recorded}
-use Rattle.play.specs.declared.Recorded.the-variants.{Fault, Run}
+use Rattle.play.specs.declared.Recorded.the-variants.{Run}
 use Rattle.play.specs.Play.{recordBytesOf, answerAfter, recordedOf, Records}
 use Rattle.play.specs.Answers.{countIn}
 

@@ -76,15 +76,15 @@ bytes-append (x ∷ xs) y =
     append-assoc (entryBytes (x .entry)) (entryBytesOf xs) (entryBytes (y .entry)) ∙ ap (λ (t : List ℕ). entryBytes (x .entry) ++ t) (bytes-append xs y)
 
 -- the first n are all that stand there
-same-front : (lines : List Line) (i count : ℕ) → length lines ≡ 2048 → i ≤ min count 2048 → min count 2048 ≤ i → take i lines ≡ take count lines
-same-front lines i count e h k = go (ltb count 2048) refl
+same-front : (lines : List Line) (i count : ℕ) → length lines ≡ entryLimit → i ≤ min count entryLimit → min count entryLimit ≤ i → take i lines ≡ take count lines
+same-front lines i count e h k = go (ltb count entryLimit) refl
   where
-    go : (t : Bool) → ltb count 2048 ≡ t → take i lines ≡ take count lines
+    go : (t : Bool) → ltb count entryLimit ≡ t → take i lines ≡ take count lines
     go true q =
-        let few : count < 2048 = ltb-true count 2048 q in
+        let few : count < entryLimit = ltb-true count entryLimit q in
         let same : i ≡ count = omega arith in ap (λ (n : ℕ). take n lines) same
     go false q =
-        let many : 2048 ≤ count = ltb-false count 2048 q in
+        let many : entryLimit ≤ count = ltb-false count entryLimit q in
         take-all i lines (omega arith) ∙ sym (take-all count lines (omega arith))
 
 module _ {l : List ℕ} {at : ℕ} (lines : List Line) where

@@ -1,6 +1,6 @@
 -- Words as the code has them, and when two outcomes of a call are one.
 use Prim.Native.Nat.{ℕ, _-_, _<_, _^_}
-use mathlib.Core.List.{List, [], _∷_}
+use mathlib.Core.List.{List, _∷_}
 use mathlib.Core.Path.{_≡_}
 use lib.ListN.{length, getD, replicate}
 use Rattle.slots.specs.Free.{wordBits, mapWords, givenAt}

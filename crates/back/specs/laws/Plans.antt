@@ -1,7 +1,7 @@
 -- What each plan does to the record and to the client: an entry is added only where an operation starts or ends, and it is the one that the client's
 -- work calls for; and every value that a plan leaves is one of 32 bits.
 use Prim.Native.Nat.{ℕ, _<_}
-use mathlib.Core.Path.{_≡_, refl, ap, sym, _∙_, subst}
+use mathlib.Core.Path.{_≡_, refl, ap, sym, subst}
 use mathlib.Core.Bool.{Bool, true, false, cond}
 use native.Mathlib.Omega.{arith}
 use lib.Dec.{ltb}
@@ -12,8 +12,6 @@ use Rattle.record.specs.declared.Entry.{Entry}
 use Rattle.record.specs.declared.Entry.the-variants.{ReadAsked, WriteAsked, Told, Done}
 use Rattle.stamps.specs.declared.Pair.{Pair}
 use Rattle.stamps.specs.Stamp.{stampLess, raised}
-use Rattle.method.specs.declared.Body.{Body}
-use Rattle.method.specs.declared.Body.the-variants.{Ask, Tell, Keep, Kept}
 use Rattle.method.specs.declared.Message.{Message}
 use Rattle.method.specs.declared.InSlot.{InSlot}
 use Rattle.method.specs.declared.InSlot.the-variants.{Empty, Full}
@@ -24,8 +22,7 @@ use Rattle.method.specs.declared.Holding.the-variants.{NoPair, Holds}
 use Rattle.method.specs.declared.Phase.{Phase}
 use Rattle.method.specs.declared.Phase.the-variants.{Asking, Keeping}
 use Rattle.method.specs.declared.Operation.{Operation}
-use Rattle.method.specs.declared.Work.{Work}
-use Rattle.method.specs.declared.Work.the-variants.{Idle, Open}
+use Rattle.method.specs.declared.Work.the-variants.{Open}
 use Rattle.method.specs.declared.Sight.{Sight}
 use Rattle.method.specs.declared.Event.{Event}
 use Rattle.method.specs.declared.Event.the-variants.{StartRead, StartWrite, Deliver, Lose, Copy, Resend, Stop, Off, On, Unknown}

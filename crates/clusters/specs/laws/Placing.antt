@@ -89,7 +89,8 @@ module _ {a : Arrays} {n : ℕ} {least most : List ℕ} where
       }
 
   -- and what is put beyond all places changes nothing
-  pub scatter-beyond : {p : ℕ} {at : List ℕ} → Placed a n least most → Fit a n → (i v : ℕ) → entryLimit ≤ i → Scattered a n least most p at → Scattered a n least most p (set at i v)
+  pub scatter-beyond : {p : ℕ} {at : List ℕ} → Placed a n least most → Fit a n → (i v : ℕ) → entryLimit ≤ i → Scattered a n least most p at
+      → Scattered a n least most p (set at i v)
   scatter-beyond {p} {at} own fit i v b s =
       record {
         long = length-set at i v ∙ s .long;

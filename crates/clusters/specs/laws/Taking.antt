@@ -36,7 +36,8 @@ own-end i n most o l = record { long = o .long; own = λ j b. o .own j (omega ar
 
 -- ---- before the first entry
 
-pub tally-none-yet : (a : Arrays) (n : ℕ) (most : List ℕ) → n ≤ entryLimit → OwnNumbers n most → Tally a n 0 (replicate entryLimit far) most (replicate cellLimit 0) (replicate cellLimit 0)
+pub tally-none-yet : (a : Arrays) (n : ℕ) (most : List ℕ) → n ≤ entryLimit → OwnNumbers n most
+    → Tally a n 0 (replicate entryLimit far) most (replicate cellLimit 0) (replicate cellLimit 0)
 tally-none-yet a n most few o =
     record {
       least-long = length-replicate {A = ℕ} entryLimit far;

@@ -7,7 +7,6 @@ use lib.Count.{ones}
 use borrow.Author.Tests.{eq-eqb, ne-eqb}
 use Rattle.record.specs.declared.Client.{Client}
 use Rattle.record.specs.declared.Cell.{Cell}
-use Rattle.quorum.specs.declared.Quorums.{Quorums}
 use Rattle.quorum.specs.Sets.{setBits, withReplica, everyReplica}
 use Rattle.quorum.specs.laws.SetLaws.{none-count, none-has, with-fresh, every-count}
 use Rattle.stamps.specs.declared.Pair.{Pair}
@@ -39,7 +38,7 @@ use Rattle.method.specs.About.{clientIn, clientOf}
 use Rattle.rack.specs.declared.Settings.{Settings}
 use Rattle.rack.specs.declared.Rack.{Rack}
 use Rattle.rack.specs.Sound.{heldFits, owes, soundOf}
-use Rattle.rack.specs.Looking.{lookedHeld, lookedClient, lookedParty, lookedPair, sight}
+use Rattle.rack.specs.Looking.{lookedHeld, lookedClient, lookedParty, sight}
 use Rattle.rack.specs.Refusals.{freed, decided}
 use Rattle.rack.specs.laws.SoundLaws.{Sound, sound-of, named, bits-enough}
 use Rattle.rack.specs.laws.Decided.{Decided, decided-fits}

@@ -1,11 +1,9 @@
 -- From one event to a run: what every done event keeps and adds, a run keeps and adds up.
 use Prim.Native.Nat.{ℕ, zero, suc, _+_}
 use mathlib.Core.Path.{_≡_, refl, ap, sym, _∙_, subst}
-use mathlib.Core.Bool.{Bool, true, false, cond}
+use mathlib.Core.Bool.{true, false}
 use mathlib.Core.List.{List, [], _∷_}
 use native.Mathlib.Omega.{arith}
-use lib.Dec.{ltb, eqb}
-use lib.ListN.{length}
 use Rattle.method.specs.declared.Event.{Event}
 use Rattle.method.specs.declared.Plan.{Plan}
 use Rattle.method.specs.declared.Decision.{Decision}
@@ -14,7 +12,7 @@ use Rattle.rack.specs.declared.Rack.{Rack}
 use Rattle.rack.specs.declared.Ran.{Ran}
 use Rattle.rack.specs.declared.Made.{Made}
 use Rattle.rack.specs.Sound.{settingsFit, soundOf}
-use Rattle.rack.specs.Run.{eventOf, appliedOf, turn, ranOf, runFrom, runOf, freshRack, madeOf}
+use Rattle.rack.specs.Run.{eventOf, appliedOf, turn, runFrom, runOf, freshRack, madeOf}
 use Rattle.rack.specs.Refusals.{decided}
 use Rattle.rack.specs.Counts.{counted, countOver}
 use Rattle.runs.specs.laws.Steps.{run-from, run-steps, from-unsound}

@@ -7,7 +7,7 @@ use mathlib.Core.Bool.{Bool, true, false, cond}
 use mathlib.Core.List.{List, [], _∷_}
 use native.Mathlib.Omega.{arith}
 use native.Mathlib.Decide.{decLe}
-use lib.Dec.{eqb, ltb}
+use lib.Dec.{eqb}
 use lib.ListN.{length}
 use Rattle.number.specs.Number.{numberBytes, numberAt, putAnswer}
 use Rattle.number.specs.laws.NumberLaws.{length-some, length-few, refusal-bounds, put-fits, put-refused}
@@ -38,8 +38,8 @@ use Rattle.method.specs.declared.Decision.{Decision}
 use Rattle.method.specs.declared.Decision.the-variants.{No, Go}
 use Rattle.rack.specs.declared.Rack.{Rack}
 use Rattle.rack.specs.declared.Made.{Made}
-use Rattle.rack.specs.Sound.{settingsFit, soundOf}
-use Rattle.rack.specs.Run.{freshRack, madeOf, eventOf, ranOf, turn, appliedOf, runFrom, runOf}
+use Rattle.rack.specs.Sound.{settingsFit}
+use Rattle.rack.specs.Run.{freshRack, madeOf, eventOf, turn, appliedOf, runFrom, runOf}
 use Rattle.rack.specs.Refusals.{decided}
 use Rattle.rack.specs.laws.Table.{decided-refuses}
 use Rattle.runs.specs.laws.Steps.{run-steps}

@@ -92,14 +92,16 @@ module _ (r q : Rack) (ws : List ℕ) (s : soundOf q ≡ true) (l : length ws �
         rows = λ i m n. omega arith;
       })
         where
-          apart : (i : ℕ) → i < cellLimit * q .settings .replicas → i % cellLimit < q .settings .cells → pairPlace i ≤ j → (t : Bool) → eqb i ((j - pairPlace 0) / pairSize) ≡ t → pairPlace i + pairSize ≤ j
+          apart : (i : ℕ) → i < cellLimit * q .settings .replicas → i % cellLimit < q .settings .cells → pairPlace i ≤ j → (t : Bool) → eqb i ((j - pairPlace 0) / pairSize)
+              ≡ t → pairPlace i + pairSize ≤ j
           apart i m n o true e =
               let a : i ≡ (j - pairPlace 0) / pairSize = eqb-true i ((j - pairPlace 0) / pairSize) e in
               let b : q .settings .cells ≤ (j - pairPlace 0) / pairSize % cellLimit = f (omega arith) in
               absurd (let c : i % cellLimit ≡ (j - pairPlace 0) / pairSize % cellLimit = ap (λ (y : ℕ). y % cellLimit) a in omega arith)
           apart i m n o false e = let a : i ≡ (j - pairPlace 0) / pairSize → ⊥ = eqb-false i ((j - pairPlace 0) / pairSize) e in omega (arith, a)
 
-      go : (t : Bool) → ltb ((j - pairPlace 0) / pairSize) (cellLimit * q .settings .replicas) ≡ t → (v : Bool) → ltb ((j - pairPlace 0) / pairSize % cellLimit) (q .settings .cells) ≡ v → word over j ≡ word alone j
+      go : (t : Bool) → ltb ((j - pairPlace 0) / pairSize) (cellLimit * q .settings .replicas) ≡ t → (v : Bool)
+          → ltb ((j - pairPlace 0) / pairSize % cellLimit) (q .settings .cells) ≡ v → word over j ≡ word alone j
       go true e true f =
           let i : ℕ = (j - pairPlace 0) / pairSize in
           let u : i < cellLimit * q .settings .replicas = ltb-true ((j - pairPlace 0) / pairSize) (cellLimit * q .settings .replicas) e in
@@ -138,7 +140,8 @@ module _ (r q : Rack) (ws : List ℕ) (s : soundOf q ≡ true) (l : length ws �
   each-word : (j : ℕ) → word over j ≡ word alone j
   each-word j = go (ltb j headSize) refl (ltb j (pairPlace 0)) refl (ltb j (slotPlace 0)) refl (ltb j (entryPlace 0)) refl
     where
-      go : (a : Bool) → ltb j headSize ≡ a → (b : Bool) → ltb j (pairPlace 0) ≡ b → (c : Bool) → ltb j (slotPlace 0) ≡ c → (d : Bool) → ltb j (entryPlace 0) ≡ d → word over j ≡ word alone j
+      go : (a : Bool) → ltb j headSize ≡ a → (b : Bool) → ltb j (pairPlace 0) ≡ b → (c : Bool) → ltb j (slotPlace 0) ≡ c → (d : Bool) → ltb j (entryPlace 0) ≡ d
+          → word over j ≡ word alone j
       go true e b f c g d h = in-head j (ltb-true j headSize e)
       go false e true f c g d h = in-parties j (ltb-false j headSize e) (ltb-true j (pairPlace 0) f)
       go false e false f true g d h = in-pairs j (ltb-false j (pairPlace 0) f) (ltb-true j (slotPlace 0) g)

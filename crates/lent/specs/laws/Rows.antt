@@ -85,7 +85,8 @@ rows-first ws lines (suc n) h k s =
     let a : 4 * suc n ≡ 4 * n + 4 = omega arith in
     let b : suc n ≡ n + 1 = omega arith in
     let e : Entry = entryIn lines n in
-    let row : take 4 (drop (4 * n) (drop (entryPlace 0) ws)) ≡ rowOf e = ap (take 4) (drop-drop (4 * n) (entryPlace 0) ws) ∙ row-here ws (entryPlace n) e (omega arith) (s n (omega arith)) in
+    let row : take 4 (drop (4 * n) (drop (entryPlace 0) ws)) ≡ rowOf e = ap (take 4) (drop-drop (4 * n) (entryPlace 0) ws)
+    ∙ row-here ws (entryPlace n) e (omega arith) (s n (omega arith)) in
     let first : take (4 * n) (drop (entryPlace 0) ws) ≡ rowsOf (entriesOf n lines) = rows-first ws lines n (omega arith) (omega arith) (λ i l. s i (omega arith)) in
     let more : rowsOf (entriesOf n lines) ++ rowOf e ≡ rowsOf (entriesOf (n + 1) lines) =
     ap (λ (x : List ℕ). rowsOf (entriesOf n lines) ++ x) (sym (rows-one e))

@@ -1,7 +1,7 @@
 -- The rack of the words that a rack leaves is that rack again, whole: parts beyond the sizes too, which are neither written nor changed.
 use Prim.Native.Nat.{ℕ, zero, suc, _+_, _-_, _*_, _/_, _%_, _≤_, _<_}
 use mathlib.Core.Path.{_≡_, refl, ap, sym, _∙_}
-use mathlib.Core.Bool.{Bool, true, false, cond}
+use mathlib.Core.Bool.{Bool, true, false}
 use mathlib.Core.List.{List, [], _∷_, _++_}
 use native.Mathlib.Omega.{arith}
 use lib.Dec.{ltb, eqb}
@@ -124,7 +124,8 @@ module _ (r : Rack) (ws : List ℕ) (s : soundOf r ≡ true) (f : Sayable r) (l 
       ∙ sym (b .parties i h k)
 
   -- a pair of a replica or cell beyond the sizes
-  pair-beyond : (i : ℕ) → i < pairLimit → (i < cellLimit * r .settings .replicas → r .settings .cells ≤ i % cellLimit) → getD (read .pairs) i freshPair ≡ getD (r .pairs) i freshPair
+  pair-beyond : (i : ℕ) → i < pairLimit → (i < cellLimit * r .settings .replicas → r .settings .cells ≤ i % cellLimit) → getD (read .pairs) i freshPair
+      ≡ getD (r .pairs) i freshPair
   unfolding rackOf
   pair-beyond i h k =
       firsts-at pairLimit i (λ j. pairIn left (pairPlace j)) freshPair h
@@ -137,7 +138,8 @@ module _ (r : Rack) (ws : List ℕ) (s : soundOf r ≡ true) (f : Sayable r) (l 
       }))
       ∙ sym (b .pairs i h k)
     where
-      other : (j : ℕ) → pairPlace i ≤ j → j < pairPlace i + pairSize → (o : ℕ) → o < cellLimit * r .settings .replicas → o % cellLimit < r .settings .cells → pairPlace o ≤ j → (t : Bool) → eqb o i ≡ t
+      other : (j : ℕ) → pairPlace i ≤ j → j < pairPlace i + pairSize → (o : ℕ) → o < cellLimit * r .settings .replicas → o % cellLimit < r .settings .cells → pairPlace o ≤ j
+          → (t : Bool) → eqb o i ≡ t
           → pairPlace o + pairSize ≤ j
       other j m n o p q u true e =
           let w : o ≡ i = eqb-true o i e in
@@ -149,7 +151,8 @@ module _ (r : Rack) (ws : List ℕ) (s : soundOf r ≡ true) (f : Sayable r) (l 
   unfolding rackOf
   pairs-again =
       let x : length (read .pairs) ≡ pairLimit = firsts-long pairLimit (λ j. pairIn left (pairPlace j)) in
-      ext-getD freshPair (read .pairs) (r .pairs) (x ∙ sym (b .pairs-long)) (λ i h. go i (omega arith) (ltb i (cellLimit * r .settings .replicas)) refl (ltb (i % cellLimit) (r .settings .cells)) refl)
+      ext-getD freshPair (read .pairs) (r .pairs) (x
+      ∙ sym (b .pairs-long)) (λ i h. go i (omega arith) (ltb i (cellLimit * r .settings .replicas)) refl (ltb (i % cellLimit) (r .settings .cells)) refl)
     where
       go : (i : ℕ) → i < pairLimit → (t : Bool) → ltb i (cellLimit * r .settings .replicas) ≡ t → (u : Bool) → ltb (i % cellLimit) (r .settings .cells) ≡ u
           → getD (read .pairs) i freshPair ≡ getD (r .pairs) i freshPair

@@ -34,7 +34,8 @@ use Rattle.rack.specs.Places.{replicaLimit, slotLimit, partyAt, pairAt, heldAt,
 use Rattle.rack.specs.Sound.{soundOf}
 use Rattle.rack.specs.laws.SoundLaws.{sound-of}
 use Rattle.lines.specs.Words.{doneStart, noneWord, replicaStart, clientStart, slotStart, recordStart, space, fromNone}
-use Rattle.lines.specs.Lines.{textRoom, eachBelow, pairText, kindText, bodyPair, namesText, messageText, slotLine, goalText, memberText, membersText, openText, heldText, holdingText}
+use Rattle.lines.specs.Lines.{textRoom, eachBelow, pairText, kindText, bodyPair, namesText, messageText, slotLine, goalText, memberText, membersText, openText, heldText}
+use Rattle.lines.specs.Lines.{holdingText}
 use Rattle.lines.specs.Lines.{phaseWord, phaseHeld, workText}
 use Rattle.lines.specs.Lines.{stoppedText, clientLine, powerText, pairsText, replicaLine, sizesLine, recordLine, rackText, refusalText, refusedLine, ranText, faultLine}
 

@@ -1,6 +1,6 @@
 -- The decisions in the order in which the code takes them, each refusal where its event is planned; and that this gives the least number that applies.
 use Prim.Native.Nat.{ℕ}
-use mathlib.Core.Path.{_≡_, refl, ap, sym, _∙_}
+use mathlib.Core.Path.{_≡_, refl, ap}
 use mathlib.Core.Bool.{Bool, true, false, cond, not, _&&_}
 use lib.Dec.{eqb}
 use Rattle.record.specs.declared.Client.{Client}
@@ -28,9 +28,11 @@ use Rattle.method.specs.declared.Note.the-variants.{Nothing}
 use Rattle.method.specs.declared.Decision.{Decision}
 use Rattle.method.specs.declared.Decision.the-variants.{No, Go}
 use Rattle.method.specs.Holding.{holds}
-use Rattle.method.specs.Plan.{activeParty, planned, usedUp, powered, asking, startOf, askOf, keepOf, current, written, chosen, keepsOf, tellCounts, tellIn, tellAt, tellOf, keptOf}
+use Rattle.method.specs.Plan.{activeParty, planned, usedUp, powered, asking, startOf, askOf, keepOf, current, written, chosen, keepsOf, tellCounts, tellIn, tellAt, tellOf}
+use Rattle.method.specs.Plan.{keptOf}
 use Rattle.method.specs.Plan.{deliverIn, deliverOf, copyOf, resendOf, stopOf, ofSlot, planOf}
-use Rattle.method.specs.Refusals.{isUnknown, isStart, namesSlot, namesClient, isResend, isDelivery, isOpen, toReplica, lastOp, isWrite, spentIn, spentAt, spentBy, slotEmpty, clientStopped}
+use Rattle.method.specs.Refusals.{isUnknown, isStart, namesSlot, namesClient, isResend, isDelivery, isOpen, toReplica, lastOp, isWrite, spentIn, spentAt, spentBy}
+use Rattle.method.specs.Refusals.{slotEmpty, clientStopped}
 use Rattle.method.specs.Refusals.{alreadyOpen, noneOpen, replicaOff, switchedSo, opSpent, numberSpent, decisionOf}
 
 -- ---- a start

@@ -1,13 +1,12 @@
 -- Every plan is of the method: what is done of an event is what the method says of its kind. What stands on plans goes by this, and not by their text.
-use Prim.Native.Nat.{ℕ}
 use mathlib.Core.Path.{_≡_, refl, ap, sym, _∙_, subst}
 use mathlib.Core.Logic.{_≢_, _⊎_, inl, inr}
-use mathlib.Core.Bool.{Bool, true, false, cond, not, _&&_}
+use mathlib.Core.Bool.{true, false, not}
 use lib.Dec.{eqb}
 use borrow.Author.Tests.{eqb-true, eqb-false, not-true}
 use Rattle.record.specs.declared.Client.{Client}
 use Rattle.record.specs.declared.Cell.{Cell}
-use Rattle.quorum.specs.Sets.{hasReplica, withReplica, asksEnough, keepsEnough}
+use Rattle.quorum.specs.Sets.{hasReplica, asksEnough, keepsEnough}
 use Rattle.stamps.specs.declared.Pair.{Pair}
 use Rattle.stamps.specs.Stamp.{lastNumber}
 use Rattle.method.specs.declared.Body.{Body}
@@ -28,14 +27,14 @@ use Rattle.method.specs.declared.Event.the-variants.{StartRead, StartWri
 use Rattle.method.specs.declared.Plan.{Plan}
 use Rattle.method.specs.declared.Decision.{Decision}
 use Rattle.method.specs.declared.Decision.the-variants.{No, Go}
-use Rattle.method.specs.Holding.{holds}
 use Rattle.method.specs.Plan.{usedUp, startOf, askOf, keepOf, current, written, keepsOf, keptCounts, keptIn, keptAt, keptOf, copyOf, resendOf, stopOf}
 use Rattle.method.specs.Refusals.{lastOp, toReplica, isWrite, decisionOf}
 use Rattle.method.specs.About.{clientIn, clientOf}
 use Rattle.method.specs.Method.{Chosen, Starts, Resends, Stops, SwitchesOff, SwitchesOn, Heard, heardSet, heardPair, Counted, countedSet, counting, Delivers, Does}
 use Rattle.method.specs.Method.Delivers.{tells, takes, hears, chooses, counts, ends, spends}
 use Rattle.method.specs.laws.Tests.{never, and-left, and-right, either}
-use Rattle.method.specs.laws.InTurn.{startIn, startTurn, ifOn, phaseEnds, tellEnough, tellPhase, tellWork, tellTurn, deliverTurn, resendIn, resendTurn, stopTurn, offTurn, onTurn}
+use Rattle.method.specs.laws.InTurn.{startIn, startTurn, ifOn, phaseEnds, tellEnough, tellPhase, tellWork, tellTurn, deliverTurn, resendIn, resendTurn, stopTurn, offTurn}
+use Rattle.method.specs.laws.InTurn.{onTurn}
 use Rattle.method.specs.laws.InTurn.{slotTurn, turnOf, in-turn}
 
 -- what is done, if anything is, is such

@@ -10,7 +10,8 @@ use lib.Seq.{sets}
 use lib.Dec.{ltb}
 use borrow.Author.Tests.{lt-ltb, le-ltb, le-leb, lt-leb, ltb-true, ltb-false}
 use Rattle.number.specs.Below.{byteLimit, Bytes}
-use Rattle.number.specs.Number.{groupSize, fifthMost, groupsOf, numberBytes, numberAt, numberOf, taken, endsFirst, lastIsZero, fifthAbove, valueOf, putAnswer, putBytes, Placed}
+use Rattle.number.specs.Number.{groupSize, fifthMost, groupsOf, numberBytes, numberAt, numberOf, taken, endsFirst, lastIsZero, fifthAbove, valueOf, putAnswer, putBytes}
+use Rattle.number.specs.Number.{Placed}
 use Rattle.number.specs.Wrote.{Wrote}
 use Rattle.number.specs.declared.Number.the-variants.{Is, Refused}
 use Rattle.number.specs.declared.Put.{Put}

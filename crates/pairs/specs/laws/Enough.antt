@@ -212,7 +212,8 @@ more-enough s m at h = go (ltb at (length s)) refl
 
 module _ (s : List ℕ) (m : ℕ) where
   -- an entry that was found, or a fault, with what follows up to where it follows
-  enter-same : (n at : ℕ) (st : Standing) (f g : ℕ → Standing → Held) → ((e : Entry) (next : ℕ) → next ≤ at + longestEntry → f next (standingAfter st e) ≡ g next (standingAfter st e))
+  enter-same : (n at : ℕ) (st : Standing) (f g : ℕ → Standing → Held) → ((e : Entry) (next : ℕ) → next ≤ at + longestEntry → f next (standingAfter st e)
+      ≡ g next (standingAfter st e))
       → (r : Found) → entryAt s at ≡ r → enter n st r f ≡ enter n st r g
   unfolding enter
   enter-same n at st f g h (Fault k) q = refl

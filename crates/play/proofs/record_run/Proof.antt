@@ -27,7 +27,8 @@ same-length : tie.Need-same-length
 same-length c = search needs
 
 returns-2 : tie.Need-returns-2
-returns-2 c = run-recorded _ _ _ _ _ _ _ _ _ _ (sym (c .before .before .before .before .before .before .before .before .before .check .ensures) ∙ c .before .before .before .before .before .before .before .replicas .given .1)
+returns-2 c = run-recorded _ _ _ _ _ _ _ _ _ _ (sym (c .before .before .before .before .before .before .before .before .before .check .ensures)
+    ∙ c .before .before .before .before .before .before .before .replicas .given .1)
     (c .before .before .before .before .before .play .ensures) (c .before .before .put-record-bytes .ensures)
 
 pub record-run-spec : {M : Type 1} → statement M

@@ -12,7 +12,7 @@ use Rattle.rack.specs.Sound.{settingsFit}
 use Rattle.rack.specs.Run.{madeOf}
 use Rattle.lines.specs.Lines.{faultLine}
 use Rattle.play.specs.declared.Recorded.{Recorded}
-use Rattle.play.specs.declared.Recorded.the-variants.{Fault, Run}
+use Rattle.play.specs.declared.Recorded.the-variants.{Fault}
 use Rattle.play.specs.Play.{playedOf, drillText, recordBytesOf, recordedOf, Records}
 use Rattle.play.specs.Answers.{refusalIn, faultIn, countIn}
 use Rattle.play.specs.Same.{SameRan, SameRecorded}

@@ -38,7 +38,7 @@ use Rattle.promise.specs.laws.Pairs.{HeldRanked, holds-seen, holds-rank,
 use Rattle.promise.specs.laws.Record.{none-added}
 use Rattle.promise.specs.laws.Clients.{stands-on}
 use Rattle.promise.specs.laws.Next.{Sends, says-sends, Next}
-use Rattle.promise.specs.laws.Slot.{Got, Found, found}
+use Rattle.promise.specs.laws.Slot.{Found, found}
 use Rattle.promise.specs.laws.Moves.{Moved, moved, moved-on}
 use Rattle.promise.specs.laws.Advance.{advance, book-on, no-note, sends-none}
 

@@ -1,6 +1,6 @@
 -- Events that no move stands for: what loses, copies, sends again, stops, switches or answers an ask leaves the view as it was.
 use Prim.Native.Nat.{ℕ}
-use mathlib.Core.Path.{_≡_, refl, sym, ap, _∙_, subst}
+use mathlib.Core.Path.{_≡_, refl, ap, _∙_, subst}
 use native.Mathlib.Omega.{arith}
 use Rattle.record.specs.declared.Client.{Client}
 use Rattle.quorum.specs.Sets.{membersOf}
@@ -14,11 +14,10 @@ use Rattle.method.specs.declared.Operation.{Operation}
 use Rattle.method.specs.declared.Event.{Event}
 use Rattle.method.specs.declared.Note.the-variants.{Nothing}
 use Rattle.method.specs.declared.Plan.{Plan}
-use Rattle.method.specs.Plan.{messageOf, answered, request}
+use Rattle.method.specs.Plan.{answered, request}
 use Rattle.method.specs.Method.{Copies, Resends}
 use Rattle.rack.specs.declared.Rack.{Rack}
 use Rattle.rack.specs.Sound.{quorumsOf}
-use Rattle.rack.specs.Places.{partyAt}
 use Rattle.rack.specs.laws.Decided.{Looked}
 use Rattle.rack.specs.Looking.{lookedHeld, lookedClient, lookedParty, lookedPair, sight}
 use Rattle.protocol.specs.View.{Setting, View}
@@ -30,7 +29,7 @@ use Rattle.promise.specs.laws.SettingLaws.{only, nobody}
 use Rattle.promise.specs.Tie.{pairOf, openPhase, Stands, At, Means, opOf, Tie}
 use Rattle.promise.specs.laws.Record.{none-added, record-same}
 use Rattle.promise.specs.laws.Next.{Sends, says-sends, at-still, Next}
-use Rattle.promise.specs.laws.Slot.{Got, Found, found, pairs-same}
+use Rattle.promise.specs.laws.Slot.{Found, found, pairs-same}
 
 module _ (r : Rack) (e : Event) (v : View) (name : ℕ → ℕ → ℕ) (t : Tie r v name) (l : Looked r e) where
   -- the setting of this rack: its sets of replicas, its quorums and its stamps

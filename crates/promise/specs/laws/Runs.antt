@@ -1,11 +1,11 @@
 -- Every run from a fresh rack has a view: each event that is done is some legal moves, and the tie stays.
 use Prim.Native.Nat.{ℕ, zero, suc, _+_, _≤_, _<_}
 use mathlib.Core.Path.{_≡_, refl, ap, sym, _∙_, subst}
-use mathlib.Core.Bool.{Bool, true, false}
+use mathlib.Core.Bool.{true, false}
 use mathlib.Core.List.{List, [], _∷_, List·Memᴰ·not-nil as no-mem}
 use native.Mathlib.Omega.{arith}
 use native.Mathlib.Decide.{decLt}
-use lib.ListN.{getD, length, replicate, length-replicate, getD-replicate, List·getD-eq-default}
+use lib.ListN.{getD, replicate, length-replicate, getD-replicate, List·getD-eq-default}
 use Rattle.record.specs.declared.Client.{Client}
 use Rattle.record.specs.declared.Cell.{Cell}
 use Rattle.record.specs.declared.Entry.the-variants.{Done}

@@ -19,7 +19,7 @@ use Rattle.rack.specs.Places.{pairPlace}
 use Rattle.rack.specs.Sound.{bodyFits, quorumsOf}
 use Rattle.rack.specs.laws.SoundLaws.{Sized}
 use Rattle.rack.specs.laws.Decided.{Looked}
-use Rattle.rack.specs.Looking.{lookedHeld, lookedClient, lookedParty, lookedPlace, lookedPair, sight}
+use Rattle.rack.specs.Looking.{lookedHeld, lookedClient, lookedPlace, lookedPair, sight}
 use Rattle.protocol.specs.View.{Setting, Pair as Seen, View}
 use Rattle.protocol.specs.Message.{Keep as Chose}
 use Rattle.protocol.specs.Move.{Move, take, put, newerOf, stored, then}
@@ -31,7 +31,7 @@ use Rattle.protocol.specs.laws.Atomic.{reached-keeps}
 use Rattle.promise.specs.laws.SettingLaws.{fits-ranked, only}
 use Rattle.promise.specs.Setting.{settingOf}
 use Rattle.method.specs.Plan.{answered}
-use Rattle.promise.specs.Tie.{pairOf, opOf, Tie}
+use Rattle.promise.specs.Tie.{pairOf, Tie}
 use Rattle.promise.specs.laws.Pairs.{raised-seen}
 use Rattle.promise.specs.laws.Record.{none-added, record-same}
 use Rattle.promise.specs.laws.Wire.{means-stays}

@@ -1,7 +1,7 @@
 -- What an event of a sound rack looks at is there, and what is decided on it stays in the rack.
-use Prim.Native.Nat.{ℕ, _+_, _≤_, _<_}
-use mathlib.Core.Path.{_≡_, refl, ap, sym, _∙_, subst}
-use mathlib.Core.Bool.{Bool, true, false, cond, not, _&&_}
+use Prim.Native.Nat.{_+_, _≤_, _<_}
+use mathlib.Core.Path.{_≡_, refl, ap, sym, subst}
+use mathlib.Core.Bool.{Bool, true, false, not, _&&_}
 use native.Mathlib.Omega.{arith}
 use lib.Dec.{ltb}
 use lib.ListN.{getD}
@@ -14,12 +14,11 @@ use Rattle.method.specs.declared.InSlot.the-variants.{Empty, Full}
 use Rattle.method.specs.declared.Event.{Event}
 use Rattle.method.specs.declared.Event.the-variants.{StartRead, StartWrite, Deliver, Lose, Copy, Resend, Stop, Off, On, Unknown}
 use Rattle.method.specs.declared.Plan.{Plan}
-use Rattle.method.specs.declared.Decision.{Decision}
-use Rattle.method.specs.declared.Decision.the-variants.{No, Go}
+use Rattle.method.specs.declared.Decision.the-variants.{Go}
 use Rattle.method.specs.About.{clientIn, clientOf}
 use Rattle.method.specs.Method.{Delivers, Does}
 use Rattle.method.specs.Method.Delivers.{tells, takes, hears, chooses, counts, ends, spends}
-use Rattle.method.specs.Refusals.{isUnknown, isStart, isDelivery, slotEmpty, clientStopped, alreadyOpen, noneOpen, replicaOff, switchedSo, opSpent, numberSpent, decisionOf}
+use Rattle.method.specs.Refusals.{isStart, decisionOf}
 use Rattle.method.specs.laws.Tests.{never, and-left}
 use Rattle.method.specs.laws.MethodLaws.{method}
 use Rattle.rack.specs.declared.Settings.{Settings}

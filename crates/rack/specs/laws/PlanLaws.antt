@@ -25,7 +25,6 @@ use Rattle.method.specs.declared.Holding.the-variants.{NoPair, Holds}
 use Rattle.method.specs.declared.Phase.{Phase}
 use Rattle.method.specs.declared.Phase.the-variants.{Asking, Keeping}
 use Rattle.method.specs.declared.Operation.{Operation}
-use Rattle.method.specs.declared.Work.{Work}
 use Rattle.method.specs.declared.Work.the-variants.{Idle, Open}
 use Rattle.method.specs.declared.Party.{Party}
 use Rattle.method.specs.declared.Sight.{Sight}

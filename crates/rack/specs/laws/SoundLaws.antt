@@ -21,7 +21,8 @@ use Rattle.method.specs.declared.Work.the-variants.{Open}
 use Rattle.rack.specs.declared.Settings.{Settings}
 use Rattle.rack.specs.declared.Rack.{Rack}
 use Rattle.rack.specs.Places.{slotLimit, replicaLimit, partyAt, pairAt, heldAt}
-use Rattle.rack.specs.Sound.{allBelow, settingsFit, pairFits, bodyFits, messageFits, heldFits, quorumsOf, holdingFits, phaseFits, operationFits, workFits, owed, wireFits, pairsFit, partiesFit, recordFits, soundOf}
+use Rattle.rack.specs.Sound.{allBelow, settingsFit, pairFits, bodyFits, messageFits, heldFits, quorumsOf, holdingFits, phaseFits, operationFits, workFits, owed, wireFits}
+use Rattle.rack.specs.Sound.{pairsFit, partiesFit, recordFits, soundOf}
 use Rattle.method.specs.laws.Tests.{and-left, and-right, and-true}
 use Rattle.rack.specs.laws.Tests.{all-at, all-of}
 

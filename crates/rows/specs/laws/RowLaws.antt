@@ -45,7 +45,8 @@ module _ (kind client cell value next : ℕ) where
   unfolding rowFound entryOf
   row-read g l e = simp (e, le-ltb lastClient client g, le-ltb lastCell cell l)
 
-  pub row-write : client ≤ lastClient → cell ≤ lastCell → kind ≡ 1 → rowFound kind client cell value next ≡ At (WriteAsked (record { 0 = client }) (record { 0 = cell }) (signedOf value)) next
+  pub row-write : client ≤ lastClient → cell ≤ lastCell → kind ≡ 1 → rowFound kind client cell value next
+      ≡ At (WriteAsked (record { 0 = client }) (record { 0 = cell }) (signedOf value)) next
   unfolding rowFound entryOf
   row-write g l e = simp (e, le-ltb lastClient client g, le-ltb lastCell cell l)
 

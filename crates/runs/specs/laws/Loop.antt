@@ -71,7 +71,8 @@ room-after r e p d l =
     let ms : List Message = addressed (p .message) (membersOf (r .settings .replicas) (p .to)) in
     let c : roomOf w ≡ roomOf (r .wire) + freed (p .clear) = cleared-room (p .clear) (slotOf e) (r .wire) (d .looked .slot) l (d .fits .slot) in
     let o : length ms ≡ ones (p .to) =
-    addressed-count (p .message) (membersOf (r .settings .replicas) (p .to)) ∙ members-count (r .settings .replicas) (p .to) (within-below (r .settings .replicas) (p .to) (d .fits .to)) in
+    addressed-count (p .message) (membersOf (r .settings .replicas) (p .to))
+    ∙ members-count (r .settings .replicas) (p .to) (within-below (r .settings .replicas) (p .to) (d .fits .to)) in
     let b : length ms ≤ roomOf w = omega (arith, o, c, d .room) in
     omega (arith, sent-room w ms (cleared-long (p .clear) (slotOf e) (r .wire) ∙ l) b, o, c)
 

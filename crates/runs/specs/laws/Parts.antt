@@ -1,11 +1,10 @@
 -- A schedule in two parts is the schedule whole, and every rack of a run is sound.
 use Prim.Native.Nat.{ℕ, zero, suc, _+_, _*_}
 use mathlib.Core.Path.{_≡_, refl, ap, sym, _∙_}
-use mathlib.Core.Bool.{Bool, true, false, cond}
+use mathlib.Core.Bool.{true}
 use mathlib.Core.List.{List, [], _∷_}
 use native.Mathlib.Omega.{arith}
-use lib.Dec.{eqb, ltb}
-use lib.ListN.{drop, length}
+use lib.ListN.{drop}
 use Rattle.method.specs.declared.Decision.{Decision}
 use Rattle.method.specs.declared.Decision.the-variants.{No, Go}
 use Rattle.rack.specs.declared.Rack.{Rack}

@@ -21,13 +21,15 @@ use Rattle.verdict.specs.laws.Bench.{allBytes, no-other, lowest-2, twelve-judge
 use Rattle.quorum.specs.Sets.{setBits, hasReplica, withReplica, majority, asksEnough, keepsEnough, everyReplica, within, membersFrom}
 use Rattle.slots.specs.Free.{countFrom, firstFrom}
 use Rattle.stamps.specs.Stamp.{stampLess, raised}
-use Rattle.method.specs.Plan.{startOf, askOf, keepOf, current, chosen, keepsOf, tellCounts, tellIn, tellAt, tellOf, keptCounts, keptIn, keptAt, keptOf, deliverIn, deliverOf, ofSlot}
+use Rattle.method.specs.Plan.{startOf, askOf, keepOf, current, chosen, keepsOf, tellCounts, tellIn, tellAt, tellOf, keptCounts, keptIn, keptAt, keptOf, deliverIn, deliverOf}
+use Rattle.method.specs.Plan.{ofSlot}
 use Rattle.method.specs.Plan.{planOf}
 use Rattle.method.specs.Holding.{holds, lastEntry}
 use Rattle.method.specs.Refusals.{isUnknown, isStart, namesSlot, namesClient, isResend, isDelivery, slotEmpty, clientStopped, alreadyOpen, noneOpen, replicaOff, switchedSo}
 use Rattle.method.specs.Refusals.{opSpent, numberSpent}
 use Rattle.rack.specs.Places.{freeAt, roomOf, sentOf, recordOf}
-use Rattle.rack.specs.Sound.{allBelow, settingsFit, pairFits, bodyFits, messageFits, heldFits, holdingFits, phaseFits, operationFits, workFits, owes, owedBy, owedIn, owed, wireFits}
+use Rattle.rack.specs.Sound.{allBelow, settingsFit, pairFits, bodyFits, messageFits, heldFits, holdingFits, phaseFits, operationFits, workFits, owes, owedBy, owedIn, owed}
+use Rattle.rack.specs.Sound.{wireFits}
 use Rattle.rack.specs.Sound.{pairsFit, partiesFit, recordFits, soundOf}
 use Rattle.method.specs.About.{clientIn, clientOf}
 use Rattle.rack.specs.Run.{freshRack, byte, eventOf, addressed, cleared, recorded, entriesIn, appliedOf, turn, runFrom, runOf}

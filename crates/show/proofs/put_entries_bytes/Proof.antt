@@ -6,17 +6,17 @@ use lib.ListN.{take}
 use borrow.Author.Needs.{needs}
 use Rattle.text.specs.Text.{Printed}
 use Rattle.text.specs.laws.Printing.{printed-length}
-use Rattle.record.specs.Record.{bytesOf}
+use Rattle.record.specs.Record.{entryLimit, bytesOf}
 use Rattle.rack.specs.declared.Line.{Line}
 use Rattle.show.proofs.Laws.{no-bytes, next-bytes, all-bytes}
 use Rattle.show.proofs.put_entries_bytes.Statement.{statement}
 use Rattle.show.proofs.put_entries_bytes.Tie as tie
 
 abbrev Inv-loop : tie.InvT-loop
-Inv-loop out₀ at count lines n next₀ i₀ out next i = (i ≤ min count 2048) × Printed out₀ at (bytesOf (map (λ (l : Line). l .entry) (take i lines))) next out
+Inv-loop out₀ at count lines n next₀ i₀ out next i = (i ≤ min count entryLimit) × Printed out₀ at (bytesOf (map (λ (l : Line). l .entry) (take i lines))) next out
 
 abbrev μ-loop : tie.MeasureT-loop
-μ-loop out₀ at count lines n next₀ i₀ out next i = min count 2048 - i
+μ-loop out₀ at count lines n next₀ i₀ out next i = min count entryLimit - i
 
 entries-in-requires : tie.Need-entries-in-requires Inv-loop μ-loop
 entries-in-requires c κs = search needs

@@ -61,7 +61,8 @@ pub tied-given : (w : ℕ) (f : ℕ → Bool) (ws : List ℕ) (j k : ℕ) → Ma
     → MapsIn w (givenAt f (wordBits * j + k)) (set ws j (bitOr (getD ws j 0) (2 ^ k)))
 tied-given w f ws j k t h l =
     tied-set w f (givenAt f (wordBits * j + k)) ws j (bitOr (getD ws j 0) (2 ^ k)) t h
-    (ap (λ (x : ℕ). bitOr x (2 ^ k)) (t .words j h) ∙ bits-freed wordBits (wordBits * j) k f (givenAt f (wordBits * j + k)) l (given-here f (wordBits * j + k)) (given-else f (wordBits * j + k)))
+    (ap (λ (x : ℕ). bitOr x (2 ^ k)) (t .words j h)
+    ∙ bits-freed wordBits (wordBits * j) k f (givenAt f (wordBits * j + k)) l (given-here f (wordBits * j + k)) (given-else f (wordBits * j + k)))
     (λ i n. bits-same wordBits (wordBits * i) f (givenAt f (wordBits * j + k)) (λ p a b. given-else f (wordBits * j + k) p (λ q. n (omega arith))))
 
 -- a slot past the end is in no word
@@ -126,5 +127,6 @@ pub count-word : (w : ℕ) (f : ℕ → Bool) (ws : List ℕ) (j : ℕ) → Maps
 count-word w f ws j t h =
     let e : wordBits * (j + 1) ≡ wordBits * j + wordBits = omega arith in
     let z : 0 + wordBits * j ≡ wordBits * j = omega arith in
-    let o : ones (getD ws j 0) ≡ countFrom wordBits (0 + wordBits * j) f = ap ones (t .words j h) ∙ ones-bits wordBits (wordBits * j) f ∙ ap (λ (b : ℕ). countFrom wordBits b f) (sym z) in
+    let o : ones (getD ws j 0) ≡ countFrom wordBits (0 + wordBits * j) f = ap ones (t .words j h) ∙ ones-bits wordBits (wordBits * j) f
+    ∙ ap (λ (b : ℕ). countFrom wordBits b f) (sym z) in
     rw e (omega (arith, count-cat (wordBits * j) wordBits 0 f))
