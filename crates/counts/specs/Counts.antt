@@ -20,7 +20,7 @@ use Rattle.rack.specs.declared.Rack.{Rack}
 use Rattle.method.specs.declared.Event.{Event}
 use Rattle.method.specs.declared.Event.the-variants.{StartRead, StartWrite, Deliver, Lose, Copy, Resend, Stop, Off, On, Unknown}
 use Rattle.method.specs.declared.Plan.{Plan}
-use Rattle.rack.specs.Places.{slotLimit, freeAt}
+use Rattle.rack.specs.Places.{ofSizes, slotLimit, freeAt}
 use Rattle.rack.specs.Run.{madeOf, runOf}
 use Rattle.rack.specs.Counts.{sentBy, deliveredBy, countOver}
 
@@ -140,7 +140,7 @@ endsOf c (e ∷ es) = endsBy c e + endsOf c es
 
 -- the rack that the maker gives
 abbrev pub madeRack : ℕ → ℕ → ℕ → Rack
-madeRack replicas clients cells = madeOf replicas clients cells .rack
+madeRack replicas clients cells = madeOf (ofSizes replicas clients cells) .rack
 
 -- the rack after a run from it
 abbrev pub rackAfter : ℕ → ℕ → ℕ → ℕ → List ℕ → Rack

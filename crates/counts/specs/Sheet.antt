@@ -3,7 +3,7 @@ use Prim.Native.Nat.{ℕ}
 use mathlib.Core.Path.{_≡_}
 use mathlib.Core.List.{List, [], _∷_, _++_}
 use Rattle.rack.specs.declared.Rack.{Rack}
-use Rattle.rack.specs.Places.{recordOf}
+use Rattle.rack.specs.Places.{ofSizes, recordOf}
 use Rattle.rack.specs.Run.{freshRack, runOf}
 use Rattle.counts.specs.Counts.{inUse, totalOf, tallyOf, requestsBy, endsOf}
 
@@ -21,14 +21,14 @@ schedule = (1 ∷ 0 ∷ 0 ∷ 18 ∷ []) ++ (four ++ four)
 
 -- the rack after these nine events, from a fresh one of three replicas
 abbrev after : Rack
-after = runOf (freshRack 3 1 1) 9 schedule .rack
+after = runOf (freshRack (ofSizes 3 1 1)) 9 schedule .rack
 
 -- what the line says: messages sent and delivered, slots still used, and the requests that the write has cost
 pub record CountLine : Type 0 where
   -- sent 10, delivered 8
-  pub tally : tallyOf (freshRack 3 1 1) 9 schedule ≡ record { sent = 10; copied = 0; delivered = 8; lost = 0 }
+  pub tally : tallyOf (freshRack (ofSizes 3 1 1)) 9 schedule ≡ record { sent = 10; copied = 0; delivered = 8; lost = 0 }
   -- so 2 slots are still used
   pub used : inUse (after .wire) ≡ 2
   -- the write has ended, and has cost 2 requests to each of 3 replicas
   pub ended : endsOf 0 (recordOf after) ≡ 1
-  pub requests : totalOf (requestsBy 0 1) (freshRack 3 1 1) 9 schedule ≡ 6
+  pub requests : totalOf (requestsBy 0 1) (freshRack (ofSizes 3 1 1)) 9 schedule ≡ 6

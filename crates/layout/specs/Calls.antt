@@ -11,6 +11,7 @@ use Rattle.layout.specs.declared.WordsAnswer.{WordsAnswer}
 use Rattle.layout.specs.Layout.{wordCount}
 use Rattle.layout.specs.Reading.{rackOf}
 use Rattle.layout.specs.Writing.{writtenOf}
+use Rattle.rack.specs.Places.{ofSizes}
 
 -- what a call answers, and what then stands in the lent words
 pub record WordsOutcome : Type 0 where
@@ -31,7 +32,7 @@ makes m = record { answer = answerOf 0 (m .refusal); lent = writtenOf (m .rack) 
 
 -- a rack of these sizes is made in the words ws
 unfoldable pub madeOutcome : ℕ → ℕ → ℕ → List ℕ → WordsOutcome
-madeOutcome replicas clients cells ws = cond (eqb (length ws) wordCount) (makes (madeOf replicas clients cells)) (unfit ws)
+madeOutcome replicas clients cells ws = cond (eqb (length ws) wordCount) (makes (madeOf (ofSizes replicas clients cells))) (unfit ws)
 
 -- the rack that is left is written where an event was done; else every word stays
 unfoldable pub leaves : Ran → List ℕ → WordsOutcome

@@ -16,17 +16,17 @@ use Rattle.script.specs.Script.{scriptOf, eventsFrom, wordsOf}
 use Rattle.rack.specs.declared.Made.{Made}
 use Rattle.rack.specs.declared.Ran.{Ran}
 use Rattle.rack.specs.laws.Fresh.{made-sound}
-use Rattle.rack.specs.Places.{recordOf}
+use Rattle.rack.specs.Places.{ofSizes, recordOf}
 use Rattle.rack.specs.Sound.{soundOf}
 use Rattle.rack.specs.Run.{madeOf, ranOf, runOf}
 use Rattle.lines.specs.Lines.{ranText, faultLine}
 use Rattle.play.specs.Play.{startedOf, playedOf, textAfter, drillText, bytesAfter, recordBytesOf, answerAfter, recordedOf, Records}
 use Rattle.play.specs.declared.Recorded.the-variants.{Fault, Run}
 
-pub sound-made : (replicas clients cells : ℕ) (m : Made) → m ≡ madeOf replicas clients cells → soundOf (m .rack) ≡ true
+pub sound-made : (replicas clients cells : ℕ) (m : Made) → m ≡ madeOf (ofSizes replicas clients cells) → soundOf (m .rack) ≡ true
 sound-made replicas clients cells m e = ap (λ (x : Made). soundOf (x .rack)) e ∙ made-sound replicas clients cells
 
-module _ (s : List ℕ) (replicas clients cells allowance first : ℕ) (m : Made) (e : m ≡ madeOf replicas clients cells) where
+module _ (s : List ℕ) (replicas clients cells allowance first : ℕ) (m : Made) (e : m ≡ madeOf (ofSizes replicas clients cells)) where
   pub played : (q : Ran) → m .refusal ≡ 0 → q ≡ runOf (m .rack) allowance (wordsOf (eventsFrom s first)) → q ≡ playedOf s replicas clients cells allowance first
   unfolding playedOf
   played q h p = p ∙ sym run ∙ ap (λ (x : Made). startedOf x allowance (wordsOf (eventsFrom s first))) e

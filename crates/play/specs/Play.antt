@@ -12,7 +12,7 @@ use Rattle.script.specs.declared.Words.the-variants.{Are, Refused}
 use Rattle.script.specs.Script.{eventsFrom, wordsOf, scriptOf}
 use Rattle.rack.specs.declared.Made.{Made}
 use Rattle.rack.specs.declared.Ran.{Ran}
-use Rattle.rack.specs.Places.{recordOf}
+use Rattle.rack.specs.Places.{ofSizes, recordOf}
 use Rattle.rack.specs.Run.{madeOf, ranOf, runOf}
 use Rattle.lines.specs.Lines.{ranText, faultLine}
 use Rattle.play.specs.declared.Recorded.{Recorded}
@@ -24,7 +24,7 @@ startedOf made allowance words = cond (eqb (made .refusal) 0) (runOf (made .rack
 
 -- running a script means running the flat list of events that it stands for, under the same allowance
 unfoldable pub playedOf : List ℕ → ℕ → ℕ → ℕ → ℕ → ℕ → Ran
-playedOf s replicas clients cells allowance first = startedOf (madeOf replicas clients cells) allowance (wordsOf (eventsFrom s first))
+playedOf s replicas clients cells allowance first = startedOf (madeOf (ofSizes replicas clients cells)) allowance (wordsOf (eventsFrom s first))
 
 -- the line of the first fault, or the lines of the run of a script that has none
 abbrev pub textAfter : List ℕ → Words → List ℕ

@@ -6,7 +6,7 @@ use native.Mathlib.Omega.{arith}
 use mathlib.Core.List.{List}
 use lib.ListN.{getD, length}
 use Rattle.method.specs.declared.Party.{Party}
-use Rattle.rack.specs.Places.{idle}
+use Rattle.rack.specs.Places.{ofSizes, idle}
 use Rattle.rack.specs.Sound.{settingsFit, owedBy, owedIn}
 use Rattle.rack.specs.laws.SoundLaws.{sized}
 use Rattle.rack.specs.laws.Owed.{owed-beyond}
@@ -30,7 +30,7 @@ pub record Bytes (replicas clients cells : ℕ) : Type 0 where
   pub second : clients < 256
   pub third : cells < 256
 
-pub bytes : (replicas clients cells : ℕ) → settingsFit (record { replicas = replicas; clients = clients; cells = cells }) ≡ true → Bytes replicas clients cells
+pub bytes : (replicas clients cells : ℕ) → settingsFit (ofSizes replicas clients cells) ≡ true → Bytes replicas clients cells
 bytes replicas clients cells e =
     let z = sized (record { replicas = replicas; clients = clients; cells = cells }) e in
     record { first = omega (arith, z .replicas); second = omega (arith, z .clients); third = omega (arith, z .cells) }

@@ -16,6 +16,7 @@ use Rattle.method.specs.declared.Work.the-variants.{Idle}
 use Rattle.method.specs.Refusals.{isEmpty}
 use Rattle.method.specs.declared.Party.{Party}
 use Rattle.rack.specs.declared.Line.{Line}
+use Rattle.rack.specs.declared.Settings.{Settings}
 use Rattle.rack.specs.declared.Rack.{Rack}
 use Rattle.stamps.specs.Stamp.{freshPair}
 
@@ -30,6 +31,10 @@ replicaLimit = 15
 -- there are places for the pairs of so many replicas, each with one for every cell
 abbrev pub pairLimit : ℕ
 pairLimit = replicaLimit * cellLimit
+
+-- the settings of a rack of these sizes
+abbrev pub ofSizes : ℕ → ℕ → ℕ → Settings
+ofSizes replicas clients cells = record { replicas = replicas; clients = clients; cells = cells }
 
 -- an empty slot
 abbrev pub empty : Slot

@@ -26,7 +26,7 @@ use Rattle.method.specs.Plan.{messageOf, asked, activeParty}
 use Rattle.method.specs.Refusals.{lastOp}
 use Rattle.rack.specs.declared.Slot.{Slot}
 use Rattle.rack.specs.declared.Rack.{Rack}
-use Rattle.rack.specs.Places.{slotLimit, empty, full, idle}
+use Rattle.rack.specs.Places.{ofSizes, slotLimit, empty, full, idle}
 use Rattle.rack.specs.Refusals.{refusalOf}
 use Rattle.rack.specs.Run.{freshRack}
 
@@ -64,7 +64,7 @@ answers r es = map (refusalOf r) es
 
 -- a fresh rack of three replicas, two clients and one cell
 abbrev fresh : Rack
-fresh = freshRack 3 2 1
+fresh = freshRack (ofSizes 3 2 1)
 
 -- that rack, but for the power, the number of entries, client 0, replica 0's pair and the wire
 abbrev rackOf : ℕ → ℕ → Party → Pair → List Slot → Rack

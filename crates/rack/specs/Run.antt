@@ -11,6 +11,7 @@ use Rattle.quorum.specs.Sets.{everyReplica, membersOf}
 use Rattle.method.specs.declared.Message.{Message}
 use Rattle.rack.specs.declared.Slot.{Slot}
 use Rattle.rack.specs.declared.Line.{Line}
+use Rattle.rack.specs.declared.Settings.{Settings}
 use Rattle.rack.specs.declared.Rack.{Rack}
 use Rattle.method.specs.declared.Event.{Event}
 use Rattle.method.specs.declared.Event.the-variants.{StartRead, StartWrite, Deliver, Lose, Copy, Resend, Stop, Off, On, Unknown}
@@ -23,7 +24,7 @@ use Rattle.rack.specs.declared.Made.{Made}
 use Rattle.rack.specs.declared.Ran.{Ran}
 use Rattle.stamps.specs.Stamp.{freshPair}
 use Rattle.method.specs.Plan.{messageOf}
-use Rattle.rack.specs.Places.{slotLimit, pairLimit, empty, blank, idle, sentOf}
+use Rattle.rack.specs.Places.{ofSizes, slotLimit, pairLimit, empty, blank, idle, sentOf}
 use Rattle.rack.specs.Sound.{settingsFit}
 use Rattle.rack.specs.Looking.{slotOf, lookedClient, lookedPlace}
 use Rattle.rack.specs.Refusals.{decided}
@@ -31,10 +32,10 @@ use Rattle.rack.specs.Refusals.{decided}
 -- ---- the maker
 
 -- replicas on, every pair stamp (0, 0) with value 0, clients idle at operation number 0, wire and record empty
-unfoldable pub freshRack : ℕ → ℕ → ℕ → Rack
-freshRack replicas clients cells = record {
-  settings = record { replicas = replicas; clients = clients; cells = cells };
-  power = everyReplica replicas;
+unfoldable pub freshRack : Settings → Rack
+freshRack z = record {
+  settings = z;
+  power = everyReplica (z .replicas);
   count = 0;
   parties = replicate clientLimit idle;
   pairs = replicate pairLimit freshPair;
@@ -43,11 +44,8 @@ freshRack replicas clients cells = record {
 }
 
 -- 1: a size out of range, and beside it the fresh rack of sizes 1, 1, 1
-unfoldable pub madeOf : ℕ → ℕ → ℕ → Made
-madeOf replicas clients cells =
-    cond (settingsFit (record { replicas = replicas; clients = clients; cells = cells }))
-    (record { refusal = 0; rack = freshRack replicas clients cells })
-    (record { refusal = 1; rack = freshRack 1 1 1 })
+unfoldable pub madeOf : Settings → Made
+madeOf z = cond (settingsFit z) (record { refusal = 0; rack = freshRack z }) (record { refusal = 1; rack = freshRack (ofSizes 1 1 1) })
 
 -- ---- an event in four words: its kind, two fields, the value as in the record
 

@@ -1,5 +1,6 @@
 // The rack's own maker.
 ghost use mathlib.Core.Path.{_≡_};
+ghost use Rattle.rack.specs.Places.{ofSizes};
 ghost use Rattle.rack.specs.Places.{idle};
 ghost use Rattle.rack.specs.Run.{freshRack, madeOf};
 ghost use Rattle.rack.specs.Sound.{settingsFit};
@@ -26,7 +27,7 @@ const MOST_CELLS: u32 = Cell::LIMIT as u32;
 
 // 1 to 15 replicas, 1 to 8 clients and 1 to 16 cells.
 pub fn sizes_in(replicas: u32, clients: u32, cells: u32) -> bool
-    ensures { λ r. ⌜ r ≡ settingsFit (record { replicas = replicas; clients = clients; cells = cells }) ⌝ }
+    ensures { λ r. ⌜ r ≡ settingsFit (ofSizes replicas clients cells) ⌝ }
 {
     if replicas < 1 {
         return false;
@@ -57,8 +58,9 @@ fn idle() -> Party
     }
 }
 
-fn sizes_of(replicas: u8, clients: u8, cells: u8) -> Settings
-    ensures { λ r. ⌜ r ≡ record { replicas = replicas; clients = clients; cells = cells } ⌝ }
+// The settings of a rack of these sizes.
+fn of_sizes(replicas: u8, clients: u8, cells: u8) -> Settings
+    ensures { λ r. ⌜ r ≡ ofSizes replicas clients cells ⌝ }
 {
     Settings {
         replicas: replicas,
@@ -68,8 +70,8 @@ fn sizes_of(replicas: u8, clients: u8, cells: u8) -> Settings
 }
 
 // The fresh rack: replicas on, every pair stamp (0, 0) with value 0, clients idle at operation number 0, wire and record empty.
-fn fresh(replicas: u8, clients: u8, cells: u8) -> Rack
-    ensures { λ r. ⌜ r ≡ freshRack replicas clients cells ⌝ }
+fn fresh(settings: Settings) -> Rack
+    ensures { λ r. ⌜ r ≡ freshRack settings ⌝ }
 {
     let party = idle();
     let pair = fresh_pair();
@@ -79,8 +81,7 @@ fn fresh(replicas: u8, clients: u8, cells: u8) -> Rack
     let line = Line {
         entry: Entry::Done(Client(0)),
     };
-    let settings = sizes_of(replicas, clients, cells);
-    let power = quorum::every(replicas);
+    let power = quorum::every(settings.replicas);
     let parties = [party; Client::LIMIT];
     let pairs = [pair; Rack::PAIRS];
     let wire = [slot; Rack::SLOTS];
@@ -106,16 +107,18 @@ impl Rack {
 
     // The fresh rack of these sizes; where one is out of range, that is refused 1 and the fresh rack is of sizes 1, 1, 1.
     pub fn made(replicas: u32, clients: u32, cells: u32) -> Made
-        ensures { λ r. ⌜ r ≡ madeOf replicas clients cells ⌝ }
+        ensures { λ r. ⌜ r ≡ madeOf (ofSizes replicas clients cells) ⌝ }
     {
         if sizes_in(replicas, clients, cells) {
-            let rack = fresh(replicas as u8, clients as u8, cells as u8);
+            let settings = of_sizes(replicas as u8, clients as u8, cells as u8);
+            let rack = fresh(settings);
             return Made {
                 refusal: 0,
                 rack: rack,
             };
         }
-        let rack = fresh(1, 1, 1);
+        let settings = of_sizes(1, 1, 1);
+        let rack = fresh(settings);
         Made {
             refusal: 1,
             rack: rack,

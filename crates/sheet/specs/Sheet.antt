@@ -23,7 +23,7 @@ use Rattle.rack.specs.declared.Rack.{Rack}
 use Rattle.rack.specs.declared.Ran.{Ran}
 use Rattle.stamps.specs.Stamp.{freshPair}
 use Rattle.method.specs.Plan.{messageOf}
-use Rattle.rack.specs.Places.{partyAt, pairAt, heldAt, roomOf, recordOf}
+use Rattle.rack.specs.Places.{ofSizes, partyAt, pairAt, heldAt, roomOf, recordOf}
 use Rattle.rack.specs.Run.{freshRack, runOf}
 use Rattle.rack.specs.Counts.{sentBy, deliveredBy, countOver}
 
@@ -58,7 +58,7 @@ four = deliver 0 ++ (deliver 1 ++ (deliver 0 ++ deliver 1))
 
 -- three replicas: the rack after the start and these events
 abbrev three : List ℕ → Ran
-three events = runOf (freshRack 3 1 1) 9 (start ++ events)
+three events = runOf (freshRack (ofSizes 3 1 1)) 9 (start ++ events)
 
 -- a message of client 0's operation 1 on cell 0, to or from replica k
 abbrev message : ℕ → Body → InSlot
@@ -144,5 +144,5 @@ pub record Sheet : Type 0 where
   pub second : pairAt (three (four ++ four) .rack) 1 0 ≡ nine
   pub third : pairAt (three (four ++ four) .rack) 2 0 ≡ freshPair
   -- Sent 10, delivered 8.
-  pub sent : countOver sentBy 9 (freshRack 3 1 1) (start ++ (four ++ four)) ≡ 10
-  pub delivered : countOver (λ e p. deliveredBy e) 9 (freshRack 3 1 1) (start ++ (four ++ four)) ≡ 8
+  pub sent : countOver sentBy 9 (freshRack (ofSizes 3 1 1)) (start ++ (four ++ four)) ≡ 10
+  pub delivered : countOver (λ e p. deliveredBy e) 9 (freshRack (ofSizes 3 1 1)) (start ++ (four ++ four)) ≡ 8

@@ -18,6 +18,7 @@ use Rattle.layout.specs.Layout.{wordCount}
 use Rattle.layout.specs.Reading.{rackOf}
 use Rattle.layout.specs.Writing.{writtenOf}
 use Rattle.layout.specs.Calls.{answerOf, makes, madeOutcome, leaves, runOutcome}
+use Rattle.rack.specs.Places.{ofSizes}
 
 -- ---- the maker
 
@@ -26,7 +27,7 @@ pub made-unfit : (x y z : ℕ) (ws : List ℕ) (a : WordsAnswer) → (length ws 
 unfolding madeOutcome
 made-unfit x y z ws a h p = let e = ne-eqb (length ws) wordCount h in (rw e p, rw e)
 
-pub made-fit : (x y z : ℕ) (ws : List ℕ) (m : Made) (blank after : List ℕ) (a : WordsAnswer) → length ws ≡ wordCount → m ≡ madeOf x y z → blank ≡ replicate (length ws) 0
+pub made-fit : (x y z : ℕ) (ws : List ℕ) (m : Made) (blank after : List ℕ) (a : WordsAnswer) → length ws ≡ wordCount → m ≡ madeOf (ofSizes x y z) → blank ≡ replicate (length ws) 0
     → after ≡ writtenOf (m .rack) blank → a ≡ answerOf 0 (m .refusal) → (a ≡ madeOutcome x y z ws .answer) × (after ≡ madeOutcome x y z ws .lent)
 unfolding madeOutcome makes
 made-fit x y z ws m blank after a h em eb ew ea =

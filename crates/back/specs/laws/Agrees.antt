@@ -36,7 +36,7 @@ use Rattle.method.specs.declared.Decision.the-variants.{No, Go}
 use Rattle.rack.specs.declared.Made.{Made}
 use Rattle.stamps.specs.Stamp.{freshPair}
 use Rattle.method.specs.Plan.{messageOf}
-use Rattle.rack.specs.Places.{slotLimit, empty, full, idle, heldIn, freeAt, sentOf, recordOf}
+use Rattle.rack.specs.Places.{ofSizes, slotLimit, empty, full, idle, heldIn, freeAt, sentOf, recordOf}
 use Rattle.rack.specs.Sound.{settingsFit, soundOf}
 use Rattle.rack.specs.Run.{freshRack, madeOf, byte, eventOf, addressed, cleared, recorded, entriesIn, appliedOf, turn, runFrom, runOf}
 use Rattle.rack.specs.Refusals.{decided}
@@ -256,7 +256,7 @@ repeated P zero i a h = h
 repeated P (suc n) zero a h = h
 repeated P (suc n) (suc i) a h = repeated P n i a h
 
-pub fresh-agrees : (replicas clients cells : ℕ) → Agrees (freshRack replicas clients cells)
+pub fresh-agrees : (replicas clients cells : ℕ) → Agrees (freshRack (ofSizes replicas clients cells))
 unfolding freshRack recordOf
 fresh-agrees replicas clients cells =
     record {
@@ -275,20 +275,20 @@ fresh-agrees replicas clients cells =
     }
 
 -- what the maker gives, whatever the sizes
-pub made-agrees : (replicas clients cells : ℕ) → Agrees (madeOf replicas clients cells .rack)
+pub made-agrees : (replicas clients cells : ℕ) → Agrees (madeOf (ofSizes replicas clients cells) .rack)
 unfolding madeOf
-made-agrees replicas clients cells = go (settingsFit (record { replicas = replicas; clients = clients; cells = cells }))
+made-agrees replicas clients cells = go (settingsFit (ofSizes replicas clients cells))
   where
-    go : (t : Bool) → Agrees (cond {A = Made} t (record { refusal = 0; rack = freshRack replicas clients cells }) (record { refusal = 1; rack = freshRack 1 1 1 }) .rack)
+    go : (t : Bool) → Agrees (cond {A = Made} t (record { refusal = 0; rack = freshRack (ofSizes replicas clients cells) }) (record { refusal = 1; rack = freshRack (ofSizes 1 1 1) }) .rack)
     go true = fresh-agrees replicas clients cells
     go false = fresh-agrees 1 1 1
 
 -- and its record is empty
-pub made-empty : (replicas clients cells : ℕ) → recordOf (madeOf replicas clients cells .rack) ≡ []
+pub made-empty : (replicas clients cells : ℕ) → recordOf (madeOf (ofSizes replicas clients cells) .rack) ≡ []
 unfolding madeOf freshRack recordOf
-made-empty replicas clients cells = go (settingsFit (record { replicas = replicas; clients = clients; cells = cells }))
+made-empty replicas clients cells = go (settingsFit (ofSizes replicas clients cells))
   where
-    go : (t : Bool) → recordOf (cond {A = Made} t (record { refusal = 0; rack = freshRack replicas clients cells }) (record { refusal = 1; rack = freshRack 1 1 1 }) .rack) ≡ []
+    go : (t : Bool) → recordOf (cond {A = Made} t (record { refusal = 0; rack = freshRack (ofSizes replicas clients cells) }) (record { refusal = 1; rack = freshRack (ofSizes 1 1 1) }) .rack) ≡ []
     go true = refl
     go false = refl
 
@@ -304,6 +304,6 @@ run-legal-from r allowance events h s a = agrees-legal (runOf r allowance events
 
 -- and so of a fresh one, for any sizes, any allowance and any events.
 pub run-legal : (replicas clients cells allowance : ℕ) (events : List ℕ) → Words events
-    → Legal (recordOf (runOf (madeOf replicas clients cells .rack) allowance events .rack))
+    → Legal (recordOf (runOf (madeOf (ofSizes replicas clients cells) .rack) allowance events .rack))
 run-legal replicas clients cells allowance events h =
-    run-legal-from (madeOf replicas clients cells .rack) allowance events h (made-sound replicas clients cells) (made-agrees replicas clients cells)
+    run-legal-from (madeOf (ofSizes replicas clients cells) .rack) allowance events h (made-sound replicas clients cells) (made-agrees replicas clients cells)

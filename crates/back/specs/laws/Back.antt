@@ -18,7 +18,7 @@ use Rattle.rows.specs.laws.Trip.{reads-legal, writes-legal}
 use Rattle.rows.specs.laws.RowLaws.{rows-length}
 use Rattle.verdict.specs.Verdict.{repeats, distinctFrom, distinct, takenFor}
 use Rattle.rack.specs.declared.Rack.{Rack}
-use Rattle.rack.specs.Places.{recordOf}
+use Rattle.rack.specs.Places.{ofSizes, recordOf}
 use Rattle.rack.specs.Sound.{soundOf}
 use Rattle.rack.specs.Run.{madeOf, runOf}
 use Rattle.back.specs.Standing.{Agrees}
@@ -63,13 +63,13 @@ reads-back-from r allowance events h s a = legal-back (recordOf (runOf r allowan
 
 -- and so of a fresh one, for any sizes, any allowance and any events
 pub reads-back : (replicas clients cells allowance : ℕ) (events : List ℕ) → Words events
-    → ReadsBack (recordOf (runOf (madeOf replicas clients cells .rack) allowance events .rack))
+    → ReadsBack (recordOf (runOf (madeOf (ofSizes replicas clients cells) .rack) allowance events .rack))
 reads-back replicas clients cells allowance events h =
-    legal-back (recordOf (runOf (madeOf replicas clients cells .rack) allowance events .rack)) (run-legal replicas clients cells allowance events h)
+    legal-back (recordOf (runOf (madeOf (ofSizes replicas clients cells) .rack) allowance events .rack)) (run-legal replicas clients cells allowance events h)
 
 -- the call that writes the record of such a run, where 16,384 bytes are lent: it isn't refused, and the bytes that read back stand at the front
 pub call-writes : (replicas clients cells allowance : ℕ) (events : List ℕ) → Words events → (d left : List ℕ) (answer : Answer) → 16384 ≤ length d
-    → let es = recordOf (runOf (madeOf replicas clients cells .rack) allowance events .rack) in
+    → let es = recordOf (runOf (madeOf (ofSizes replicas clients cells) .rack) allowance events .rack) in
     Leaves (writeOutcome (rowsOf es) d) answer left → Leaves (record { answer = All (length (bytesOf es)); lent = bytesOf es ++ drop (length (bytesOf es)) d }) answer left
 call-writes replicas clients cells allowance events h d left answer room p =
     let w = reads-back replicas clients cells allowance events h in

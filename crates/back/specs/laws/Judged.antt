@@ -34,7 +34,7 @@ use Rattle.method.specs.declared.Decision.the-variants.{No, Go}
 use Rattle.method.specs.Holding.{lastEntry}
 use Rattle.method.specs.Method.{Delivers, Does}
 use Rattle.method.specs.Method.Delivers.{tells, takes, hears, chooses, counts, ends, spends}
-use Rattle.rack.specs.Places.{recordOf}
+use Rattle.rack.specs.Places.{ofSizes, recordOf}
 use Rattle.rack.specs.Sound.{soundOf}
 use Rattle.rack.specs.Run.{madeOf, eventOf, appliedOf, turn, runFrom, runOf}
 use Rattle.rack.specs.Refusals.{decided}
@@ -218,11 +218,11 @@ from-clear done r (suc left) (x ∷ y ∷ z ∷ v ∷ ws) h s a c =
 
 -- The judge takes the record of a run of a fresh rack for just its entries, for any sizes and any allowance, if the writes that the events ask for differ.
 taken-whole : (replicas clients cells allowance : ℕ) (events : List ℕ) → Words events → Differ events
-    → takenFor (bytesOf (recordOf (runOf (madeOf replicas clients cells .rack) allowance events .rack)))
-    ≡ entries (recordOf (runOf (madeOf replicas clients cells .rack) allowance events .rack))
+    → takenFor (bytesOf (recordOf (runOf (madeOf (ofSizes replicas clients cells) .rack) allowance events .rack)))
+    ≡ entries (recordOf (runOf (madeOf (ofSizes replicas clients cells) .rack) allowance events .rack))
 unfolding distinct
 taken-whole replicas clients cells allowance events h d =
-    let r : Rack = madeOf replicas clients cells .rack in
+    let r : Rack = madeOf (ofSizes replicas clients cells) .rack in
     let s : soundOf r ≡ true = made-sound replicas clients cells in
     let es : List Entry = recordOf (runOf r allowance events .rack) in
     let first : recordOf r ≡ [] = made-empty replicas clients cells in
@@ -233,16 +233,16 @@ taken-whole replicas clients cells allowance events h d =
 
 -- It doesn't refuse them: its verdict is lawful or unlawful.
 pub not-refused : (replicas clients cells allowance : ℕ) (events : List ℕ) → Words events → Differ events
-    → (k n : ℕ) → ¬ Judges (takenFor (bytesOf (recordOf (runOf (madeOf replicas clients cells .rack) allowance events .rack)))) (saysRefused k n)
+    → (k n : ℕ) → ¬ Judges (takenFor (bytesOf (recordOf (runOf (madeOf (ofSizes replicas clients cells) .rack) allowance events .rack)))) (saysRefused k n)
 not-refused replicas clients cells allowance events h d k n j =
-    let t : entries (recordOf (runOf (madeOf replicas clients cells .rack) allowance events .rack)) ≡ fault k n =
+    let t : entries (recordOf (runOf (madeOf (ofSizes replicas clients cells) .rack) allowance events .rack)) ≡ fault k n =
     sym (taken-whole replicas clients cells allowance events h d) ∙ j in
     let z : _≡_ {A = ℕ} 0 1 = cc in omega arith
 
 -- And by the promise its verdict is lawful, and no other.
 pub judged-lawful : (replicas clients cells allowance : ℕ) (events : List ℕ) → Words events → Differ events
-    → (v : Verdict) → Judges (takenFor (bytesOf (recordOf (runOf (madeOf replicas clients cells .rack) allowance events .rack)))) v → v ≡ saysLawful
+    → (v : Verdict) → Judges (takenFor (bytesOf (recordOf (runOf (madeOf (ofSizes replicas clients cells) .rack) allowance events .rack)))) v → v ≡ saysLawful
 judged-lawful replicas clients cells allowance events h d v j =
-    let es : List Entry = recordOf (runOf (madeOf replicas clients cells .rack) allowance events .rack) in
+    let es : List Entry = recordOf (runOf (madeOf (ofSizes replicas clients cells) .rack) allowance events .rack) in
     lawful-exactly (takenFor (bytesOf es)) v j es (taken-whole replicas clients cells allowance events h d) (run-legal replicas clients cells allowance events h) .1
     (promise replicas clients cells allowance events)

@@ -11,7 +11,7 @@ use Rattle.rack.specs.declared.Rack.{Rack}
 use Rattle.method.specs.declared.Event.{Event}
 use Rattle.method.specs.declared.Plan.{Plan}
 use Rattle.method.specs.declared.Decision.the-variants.{Go}
-use Rattle.rack.specs.Places.{slotLimit, empty, freeAt, roomOf}
+use Rattle.rack.specs.Places.{ofSizes, slotLimit, empty, freeAt, roomOf}
 use Rattle.rack.specs.Sound.{soundOf}
 use Rattle.rack.specs.Run.{appliedOf, freshRack, madeOf, runOf}
 use Rattle.rack.specs.Refusals.{decided}
@@ -97,7 +97,7 @@ in-use r allowance ws l = go (soundOf r) refl
 -- ---- from a fresh rack
 
 -- the wire of a fresh rack
-fresh-wire : (replicas clients cells : ℕ) → freshRack replicas clients cells .wire ≡ replicate slotLimit empty
+fresh-wire : (replicas clients cells : ℕ) → freshRack (ofSizes replicas clients cells) .wire ≡ replicate slotLimit empty
 unfolding freshRack
 fresh-wire replicas clients cells = refl
 
@@ -107,14 +107,14 @@ none-in-use = refl
 
 -- slots in use equal messages sent plus copies, less deliveries, less losses, each counted from the events done
 pub in-use-fresh : (replicas clients cells allowance : ℕ) (ws : List ℕ)
-    → inUse (runOf (madeOf replicas clients cells .rack) allowance ws .rack .wire)
-    + (tallyOf (madeOf replicas clients cells .rack) allowance ws .delivered + tallyOf (madeOf replicas clients cells .rack) allowance ws .lost)
-    ≡ tallyOf (madeOf replicas clients cells .rack) allowance ws .sent + tallyOf (madeOf replicas clients cells .rack) allowance ws .copied
+    → inUse (runOf (madeOf (ofSizes replicas clients cells) .rack) allowance ws .rack .wire)
+    + (tallyOf (madeOf (ofSizes replicas clients cells) .rack) allowance ws .delivered + tallyOf (madeOf (ofSizes replicas clients cells) .rack) allowance ws .lost)
+    ≡ tallyOf (madeOf (ofSizes replicas clients cells) .rack) allowance ws .sent + tallyOf (madeOf (ofSizes replicas clients cells) .rack) allowance ws .copied
 in-use-fresh replicas clients cells allowance ws =
     let e = made-fresh (λ (r : Rack). r .wire ≡ replicate slotLimit empty) fresh-wire replicas clients cells in
     omega (
       arith,
-      in-use (madeOf replicas clients cells .rack) allowance ws (ap length e ∙ length-replicate slotLimit empty),
+      in-use (madeOf (ofSizes replicas clients cells) .rack) allowance ws (ap length e ∙ length-replicate slotLimit empty),
       ap inUse e,
       none-in-use,
     )

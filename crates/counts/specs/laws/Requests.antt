@@ -21,7 +21,7 @@ use Rattle.method.specs.declared.Note.{Note}
 use Rattle.method.specs.declared.Note.the-variants.{Nothing, Asked, Ended}
 use Rattle.method.specs.declared.Plan.{Plan}
 use Rattle.method.specs.declared.Decision.the-variants.{Go}
-use Rattle.rack.specs.Places.{blank, idle, partyAt, recordOf}
+use Rattle.rack.specs.Places.{ofSizes, blank, idle, partyAt, recordOf}
 use Rattle.rack.specs.Sound.{owes, soundOf}
 use Rattle.rack.specs.Run.{recorded, entriesIn, appliedOf, freshRack}
 use Rattle.rack.specs.Refusals.{decided}
@@ -152,7 +152,7 @@ module _ (n c k : ℕ) where
 
 -- ---- from a fresh rack
 
-fresh-party : (replicas clients cells c : ℕ) → partyAt (freshRack replicas clients cells) c ≡ idle
+fresh-party : (replicas clients cells c : ℕ) → partyAt (freshRack (ofSizes replicas clients cells)) c ≡ idle
 unfolding freshRack
 fresh-party replicas clients cells c = go (ltb c clientLimit) refl
   where
@@ -169,10 +169,10 @@ fresh-cost n k h = rw (le-ltb k 0 (omega arith), ne-eqb k 0 (λ e. omega arith))
 abbrev Fresh : ℕ → Rack → Type 0
 Fresh c r = soundOf r ≡ true → Numbered (r .settings .replicas) c r × (partyAt r c ≡ idle)
 
-fresh-numbered : (c replicas clients cells : ℕ) → Fresh c (freshRack replicas clients cells)
+fresh-numbered : (c replicas clients cells : ℕ) → Fresh c (freshRack (ofSizes replicas clients cells))
 unfolding freshRack recordOf endsOf owes
 fresh-numbered c replicas clients cells s =
-    let e : partyAt (freshRack replicas clients cells) c ≡ idle = fresh-party replicas clients cells c in (
+    let e : partyAt (freshRack (ofSizes replicas clients cells)) c ≡ idle = fresh-party replicas clients cells c in (
       record {
         sound = s;
         replicas = refl;

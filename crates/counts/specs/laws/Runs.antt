@@ -18,6 +18,7 @@ use Rattle.rack.specs.Counts.{counted, countOver}
 use Rattle.runs.specs.laws.Steps.{run-from, run-steps, from-unsound}
 use Rattle.counts.specs.Counts.{totalOf}
 use Rattle.method.specs.laws.Tests.{whichever}
+use Rattle.rack.specs.Places.{ofSizes}
 
 -- ---- two counts at once
 
@@ -95,8 +96,8 @@ unsound-none f r allowance ws u =
 -- ---- the maker
 
 -- what the maker gives is a fresh rack
-pub made-fresh : (P : Rack → Type 0) → ((replicas clients cells : ℕ) → P (freshRack replicas clients cells)) → (replicas clients cells : ℕ)
-    → P (madeOf replicas clients cells .rack)
+pub made-fresh : (P : Rack → Type 0) → ((replicas clients cells : ℕ) → P (freshRack (ofSizes replicas clients cells))) → (replicas clients cells : ℕ)
+    → P (madeOf (ofSizes replicas clients cells) .rack)
 unfolding madeOf
 made-fresh P f replicas clients cells =
-    whichever (λ (m : Made). P (m .rack)) (settingsFit (record { replicas = replicas; clients = clients; cells = cells })) _ _ (f replicas clients cells) (f 1 1 1)
+    whichever (λ (m : Made). P (m .rack)) (settingsFit (ofSizes replicas clients cells)) _ _ (f replicas clients cells) (f 1 1 1)

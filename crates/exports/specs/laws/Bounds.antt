@@ -48,6 +48,7 @@ use Rattle.layout.specs.Layout.{wordCount}
 use Rattle.layout.specs.Reading.{rackOf}
 use Rattle.layout.specs.Calls.{unfit, makes, madeOutcome, leaves, runOutcome}
 use Rattle.exports.specs.Unpacked.{NumberFits, PutFits, AnswerFits, VerdictFits, RunFits}
+use Rattle.rack.specs.Places.{ofSizes}
 
 -- ---- numbers
 
@@ -132,11 +133,11 @@ verdict-fits s b (saysRefused k n) j =
 -- ---- racks
 
 -- the maker refuses with 1, or not at all
-made-refusal : (x y z : ℕ) → madeOf x y z .refusal ≤ 1
+made-refusal : (x y z : ℕ) → madeOf (ofSizes x y z) .refusal ≤ 1
 unfolding madeOf
 made-refusal x y z = go (settingsFit (record { replicas = x; clients = y; cells = z }))
   where
-    go : (t : Bool) → cond {A = Made} t (record { refusal = 0; rack = freshRack x y z }) (record { refusal = 1; rack = freshRack 1 1 1 }) .refusal ≤ 1
+    go : (t : Bool) → cond {A = Made} t (record { refusal = 0; rack = freshRack (ofSizes x y z) }) (record { refusal = 1; rack = freshRack (ofSizes 1 1 1) }) .refusal ≤ 1
     go true = omega arith
     go false = omega arith
 
@@ -144,7 +145,7 @@ pub made-fits : (x y z : ℕ) (ws : List ℕ) (a : WordsAnswer) → madeOutcome 
 unfolding madeOutcome makes
 made-fits x y z ws a e = go (eqb (length ws) wordCount) (ap (λ (k : WordsAnswer). k .done) e) (ap (λ (k : WordsAnswer). k .refusal) e)
   where
-    go : (t : Bool) → cond t (makes (madeOf x y z)) (unfit ws) .answer .done ≡ a .done → cond t (makes (madeOf x y z)) (unfit ws) .answer .refusal ≡ a .refusal
+    go : (t : Bool) → cond t (makes (madeOf (ofSizes x y z))) (unfit ws) .answer .done ≡ a .done → cond t (makes (madeOf (ofSizes x y z))) (unfit ws) .answer .refusal ≡ a .refusal
         → RunFits a
     go true p q = (omega (arith, made-refusal x y z), omega arith)
     go false p q = (omega arith, omega arith)

@@ -21,6 +21,7 @@ use Rattle.layout.specs.Calls.{makes, madeOutcome, leaves, runOutcome}
 use Rattle.lent.specs.laws.Whole.{whole}
 use Rattle.lent.specs.laws.Stays.{Writable, small-of, run-writable}
 use Rattle.lent.specs.laws.Read.{read-writable, fresh-writable, made-fresh}
+use Rattle.rack.specs.Places.{ofSizes}
 
 -- ---- making
 
@@ -29,17 +30,17 @@ blank-words zero j = refl
 blank-words (suc n) zero = refl
 blank-words (suc n) (suc j) = blank-words n j
 
-fresh-again : (replicas clients cells : ℕ) → settingsFit (record { replicas = replicas; clients = clients; cells = cells }) ≡ true
-    → (ws : List ℕ) → ((j : ℕ) → word ws j ≡ 0) → length ws ≡ wordCount → rackOf (writtenOf (freshRack replicas clients cells) ws) ≡ freshRack replicas clients cells
+fresh-again : (replicas clients cells : ℕ) → settingsFit (ofSizes replicas clients cells) ≡ true
+    → (ws : List ℕ) → ((j : ℕ) → word ws j ≡ 0) → length ws ≡ wordCount → rackOf (writtenOf (freshRack (ofSizes replicas clients cells)) ws) ≡ freshRack (ofSizes replicas clients cells)
 fresh-again replicas clients cells e ws h l =
-    let r : Rack = freshRack replicas clients cells in
+    let r : Rack = freshRack (ofSizes replicas clients cells) in
     let s : soundOf r ≡ true = fresh-sound replicas clients cells e in
     let w : Writable ws r = fresh-writable ws h replicas clients cells (sized (record { replicas = replicas; clients = clients; cells = cells }) e .replicas) in
     whole r ws s (small-of ws r w) l (w .beyond)
 
 -- the rack that was made stands in the words, also beside a refusal
 pub made-reads-again : (replicas clients cells : ℕ) (ws : List ℕ) → length ws ≡ wordCount
-    → rackOf (madeOutcome replicas clients cells ws .lent) ≡ madeOf replicas clients cells .rack
+    → rackOf (madeOutcome replicas clients cells ws .lent) ≡ madeOf (ofSizes replicas clients cells) .rack
 unfolding madeOutcome makes settingsFit
 made-reads-again replicas clients cells ws h =
     rw (eq-eqb (length ws) wordCount h)

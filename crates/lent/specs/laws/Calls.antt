@@ -15,7 +15,7 @@ use Rattle.rows.specs.Row.{rowOf}
 use Rattle.stamps.specs.Stamp.{freshPair}
 use Rattle.rack.specs.declared.Rack.{Rack}
 use Rattle.rack.specs.declared.Ran.{Ran}
-use Rattle.rack.specs.Places.{slotLimit, partyAt, heldAt, recordOf}
+use Rattle.rack.specs.Places.{ofSizes, slotLimit, partyAt, heldAt, recordOf}
 use Rattle.rack.specs.Sound.{soundOf}
 use Rattle.rack.specs.laws.Fresh.{made-sound}
 use Rattle.rack.specs.Run.{madeOf, runOf}
@@ -49,8 +49,8 @@ pub made-long : (replicas clients cells : ℕ) (ws : List ℕ) → length (madeO
 unfolding madeOutcome makes
 made-long replicas clients cells ws = go (eqb (length ws) wordCount) refl
   where
-    go : (t : Bool) → eqb (length ws) wordCount ≡ t → length (cond t (makes (madeOf replicas clients cells)) (unfit ws) .lent) ≡ length ws
-    go true e = written-long (madeOf replicas clients cells .rack) (replicate wordCount 0) ∙ length-replicate {A = ℕ} wordCount 0 ∙ sym (eqb-true (length ws) wordCount e)
+    go : (t : Bool) → eqb (length ws) wordCount ≡ t → length (cond t (makes (madeOf (ofSizes replicas clients cells))) (unfit ws) .lent) ≡ length ws
+    go true e = written-long (madeOf (ofSizes replicas clients cells) .rack) (replicate wordCount 0) ∙ length-replicate {A = ℕ} wordCount 0 ∙ sym (eqb-true (length ws) wordCount e)
     go false e = refl
 
 pub run-long : (ws : List ℕ) (n : ℕ) (es : List ℕ) → length (runOutcome ws n es .lent) ≡ length ws
@@ -76,7 +76,7 @@ pub record Led (r : Rack) : Type 0 where
   pub agrees : Agrees r
   pub reached : Reached r
 
-made-led : (replicas clients cells : ℕ) → Led (madeOf replicas clients cells .rack)
+made-led : (replicas clients cells : ℕ) → Led (madeOf (ofSizes replicas clients cells) .rack)
 made-led replicas clients cells =
     record {
       sound = made-sound replicas clients cells;

@@ -13,7 +13,7 @@ use Rattle.text.specs.Text.{field, refusedWord, lineFeed}
 use Rattle.rack.specs.declared.Rack.{Rack}
 use Rattle.rack.specs.declared.Made.{Made}
 use Rattle.rack.specs.declared.Ran.{Ran}
-use Rattle.rack.specs.Places.{slotLimit, partyAt, heldAt, recordOf}
+use Rattle.rack.specs.Places.{ofSizes, slotLimit, partyAt, heldAt, recordOf}
 use Rattle.rack.specs.Sound.{settingsFit}
 use Rattle.rack.specs.laws.Fresh.{made-sound}
 use Rattle.rack.specs.Run.{freshRack, madeOf, ranOf, runOf}
@@ -72,10 +72,10 @@ module _ (s : List ℕ) (bytes : Bytes s) (replicas clients cells allowance firs
 
   played-reached : Reached left
   unfolding playedOf
-  played-reached = go (eqb (madeOf replicas clients cells .refusal) 0)
+  played-reached = go (eqb (madeOf (ofSizes replicas clients cells) .refusal) 0)
     where
       m : Made
-      m = madeOf replicas clients cells
+      m = madeOf (ofSizes replicas clients cells)
 
       go : (t : Bool) → Reached (cond t (runOf (m .rack) allowance events) (ranOf 0 (m .refusal) (m .rack)) .rack)
       go true = Reached.ran (m .rack) allowance events (Reached.made replicas clients cells)
@@ -83,10 +83,10 @@ module _ (s : List ℕ) (bytes : Bytes s) (replicas clients cells allowance firs
 
   played-agrees : Agrees left
   unfolding playedOf
-  played-agrees = go (eqb (madeOf replicas clients cells .refusal) 0)
+  played-agrees = go (eqb (madeOf (ofSizes replicas clients cells) .refusal) 0)
     where
       m : Made
-      m = madeOf replicas clients cells
+      m = madeOf (ofSizes replicas clients cells)
 
       go : (t : Bool) → Agrees (cond t (runOf (m .rack) allowance events) (ranOf 0 (m .refusal) (m .rack)) .rack)
       go true = run-agrees (m .rack) allowance events (script-words s bytes (length s - first) first) (made-sound replicas clients cells) (made-agrees replicas clients cells)
@@ -110,8 +110,8 @@ drill-lawful s replicas clients cells allowance first bytes h =
     }
 
 -- A refused maker: no event is done, the refusal is 1, and the rack is the fresh one of sizes 1, 1, 1, whose record is empty.
-pub drill-refused : (s : List ℕ) (replicas clients cells allowance first : ℕ) → settingsFit (record { replicas = replicas; clients = clients; cells = cells }) ≡ false
-    → playedOf s replicas clients cells allowance first ≡ ranOf 0 1 (freshRack 1 1 1)
+pub drill-refused : (s : List ℕ) (replicas clients cells allowance first : ℕ) → settingsFit (ofSizes replicas clients cells) ≡ false
+    → playedOf s replicas clients cells allowance first ≡ ranOf 0 1 (freshRack (ofSizes 1 1 1))
 unfolding playedOf madeOf
 drill-refused s replicas clients cells allowance first h = rw h
 

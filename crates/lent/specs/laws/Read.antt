@@ -23,7 +23,7 @@ use Rattle.rack.specs.declared.Line.{Line}
 use Rattle.rack.specs.declared.Slot.{Slot}
 use Rattle.rack.specs.declared.Rack.{Rack}
 use Rattle.rack.specs.declared.Made.{Made}
-use Rattle.rack.specs.Places.{slotLimit, replicaLimit, pairLimit, empty, blank, idle}
+use Rattle.rack.specs.Places.{ofSizes, slotLimit, replicaLimit, pairLimit, empty, blank, idle}
 use Rattle.rack.specs.Sound.{allBelow, settingsFit, soundOf}
 use Rattle.rack.specs.Run.{freshRack, madeOf}
 use Rattle.rack.specs.laws.Tests.{all-of}
@@ -188,7 +188,7 @@ every-small : (n : ℕ) → n ≤ replicaLimit → everyReplica n < powerLimit
 unfolding setBits
 every-small n h = let l : n ≤ replicaLimit = h in omega (arith, every-below n (omega arith), pow-mono {i = n} {j = replicaLimit} l)
 
-pub fresh-writable : (ws : List ℕ) → ((j : ℕ) → word ws j ≡ 0) → (replicas clients cells : ℕ) → replicas ≤ replicaLimit → Writable ws (freshRack replicas clients cells)
+pub fresh-writable : (ws : List ℕ) → ((j : ℕ) → word ws j ≡ 0) → (replicas clients cells : ℕ) → replicas ≤ replicaLimit → Writable ws (freshRack (ofSizes replicas clients cells))
 unfolding freshRack
 fresh-writable ws h replicas clients cells n =
     record {
@@ -209,12 +209,12 @@ fresh-writable ws h replicas clients cells n =
 
 -- what holds of every fresh rack holds of what the maker gives
 pub made-fresh : (P : Rack → Type 0) (replicas clients cells : ℕ)
-    → (settingsFit (record { replicas = replicas; clients = clients; cells = cells }) ≡ true → P (freshRack replicas clients cells)) → P (freshRack 1 1 1)
-    → P (madeOf replicas clients cells .rack)
+    → (settingsFit (ofSizes replicas clients cells) ≡ true → P (freshRack (ofSizes replicas clients cells))) → P (freshRack (ofSizes 1 1 1))
+    → P (madeOf (ofSizes replicas clients cells) .rack)
 unfolding madeOf
-made-fresh P replicas clients cells h k = go (settingsFit (record { replicas = replicas; clients = clients; cells = cells })) refl
+made-fresh P replicas clients cells h k = go (settingsFit (ofSizes replicas clients cells)) refl
   where
-    go : (t : Bool) → settingsFit (record { replicas = replicas; clients = clients; cells = cells }) ≡ t
-        → P (cond {A = Made} t (record { refusal = 0; rack = freshRack replicas clients cells }) (record { refusal = 1; rack = freshRack 1 1 1 }) .rack)
+    go : (t : Bool) → settingsFit (ofSizes replicas clients cells) ≡ t
+        → P (cond {A = Made} t (record { refusal = 0; rack = freshRack (ofSizes replicas clients cells) }) (record { refusal = 1; rack = freshRack (ofSizes 1 1 1) }) .rack)
     go true e = h e
     go false e = k

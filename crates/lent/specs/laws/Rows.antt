@@ -17,7 +17,7 @@ use Rattle.rows.specs.Rows.{rowsOf, writeOutcome}
 use Rattle.rows.specs.laws.RowLaws.{row-length}
 use Rattle.rack.specs.declared.Line.{Line}
 use Rattle.rack.specs.declared.Rack.{Rack}
-use Rattle.rack.specs.Places.{recordOf}
+use Rattle.rack.specs.Places.{ofSizes, recordOf}
 use Rattle.rack.specs.Sound.{soundOf}
 use Rattle.rack.specs.laws.SoundLaws.{sound-of}
 use Rattle.rack.specs.Run.{freshRack, madeOf, runOf}
@@ -42,7 +42,7 @@ use Rattle.lent.specs.laws.Twice.{run-none, run-some}
 abbrev RowsStand : List ℕ → Type 0
 RowsStand ws = (i : ℕ) → i < rackOf ws .count → Stands ws (entryPlace i) (rowOf (entryIn (rackOf ws .lines) i))
 
-made-none : (replicas clients cells : ℕ) → madeOf replicas clients cells .rack .count ≡ 0
+made-none : (replicas clients cells : ℕ) → madeOf (ofSizes replicas clients cells) .rack .count ≡ 0
 unfolding freshRack
 made-none replicas clients cells = made-fresh (λ (r : Rack). r .count ≡ 0) replicas clients cells (λ e. refl) refl
 

@@ -18,6 +18,7 @@ use Rattle.runs.specs.laws.Parts.{run-stays}
 use Rattle.text.specs.Text.{Printed}
 use Rattle.lines.specs.laws.Fits.{ran-fits, fault-fits}
 use Rattle.play.specs.Play.{playedOf, textAfter, drillText}
+use Rattle.rack.specs.Places.{ofSizes}
 
 -- the rack that a script leaves is sound
 pub played-sound : (s : List ℕ) (replicas clients cells allowance first : ℕ) → soundOf (playedOf s replicas clients cells allowance first .rack) ≡ true
@@ -25,7 +26,7 @@ unfolding playedOf
 played-sound s replicas clients cells allowance first = go (eqb (m .refusal) 0)
   where
     m : Made
-    m = madeOf replicas clients cells
+    m = madeOf (ofSizes replicas clients cells)
 
     go : (t : Bool) → soundOf (cond t (runOf (m .rack) allowance (wordsOf (eventsFrom s first))) (ranOf 0 (m .refusal) (m .rack)) .rack) ≡ true
     go true = run-stays (m .rack) allowance (wordsOf (eventsFrom s first)) (made-sound replicas clients cells)

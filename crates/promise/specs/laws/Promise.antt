@@ -7,7 +7,7 @@ use Rattle.law.specs.Operation.{operations}
 use Rattle.law.specs.Order.{Lawful}
 use Rattle.rack.specs.declared.Rack.{Rack}
 use Rattle.rack.specs.declared.Made.{Made}
-use Rattle.rack.specs.Places.{recordOf}
+use Rattle.rack.specs.Places.{ofSizes, recordOf}
 use Rattle.rack.specs.Sound.{settingsFit, quorumsOf}
 use Rattle.rack.specs.Run.{freshRack, madeOf, runOf}
 use Rattle.protocol.specs.laws.Atomic.{atomic}
@@ -21,25 +21,25 @@ use Rattle.promise.specs.Reached.{Reached, made, ran}
 tied-lawful : (r : Rack) → Tied r → Lawful (operations (recordOf r))
 tied-lawful r k = shown-lawful (k .view .ops) (recordOf r) (k .tie .book) (atomic (settingOf (quorumsOf (r .settings))) (k .view) (k .tie .reached))
 
-made-tied : (replicas clients cells : ℕ) → Tied (madeOf replicas clients cells .rack)
+made-tied : (replicas clients cells : ℕ) → Tied (madeOf (ofSizes replicas clients cells) .rack)
 unfolding madeOf
-made-tied replicas clients cells = go (settingsFit (record { replicas = replicas; clients = clients; cells = cells }))
+made-tied replicas clients cells = go (settingsFit (ofSizes replicas clients cells))
   where
-    go : (t : Bool) → Tied (cond {A = Made} t (record { refusal = 0; rack = freshRack replicas clients cells }) (record { refusal = 1; rack = freshRack 1 1 1 }) .rack)
+    go : (t : Bool) → Tied (cond {A = Made} t (record { refusal = 0; rack = freshRack (ofSizes replicas clients cells) }) (record { refusal = 1; rack = freshRack (ofSizes 1 1 1) }) .rack)
     go true = fresh-tied replicas clients cells
     go false = fresh-tied 1 1 1
 
 -- From what the maker gives, whatever the sizes: a refused one gives the rack of sizes 1, 1, 1.
-pub promise : (replicas clients cells allowance : ℕ) (events : List ℕ) → Lawful (operations (recordOf (runOf (madeOf replicas clients cells .rack) allowance events .rack)))
+pub promise : (replicas clients cells allowance : ℕ) (events : List ℕ) → Lawful (operations (recordOf (runOf (madeOf (ofSizes replicas clients cells) .rack) allowance events .rack)))
 promise replicas clients cells allowance events =
-    tied-lawful (runOf (madeOf replicas clients cells .rack) allowance events .rack)
-    (run-tied (madeOf replicas clients cells .rack) allowance events (made-tied replicas clients cells))
+    tied-lawful (runOf (madeOf (ofSizes replicas clients cells) .rack) allowance events .rack)
+    (run-tied (madeOf (ofSizes replicas clients cells) .rack) allowance events (made-tied replicas clients cells))
 
 -- From a fresh rack.
-pub promise-fresh : (replicas clients cells allowance : ℕ) (events : List ℕ) → Lawful (operations (recordOf (runOf (freshRack replicas clients cells) allowance events .rack)))
+pub promise-fresh : (replicas clients cells allowance : ℕ) (events : List ℕ) → Lawful (operations (recordOf (runOf (freshRack (ofSizes replicas clients cells)) allowance events .rack)))
 promise-fresh replicas clients cells allowance events =
-    tied-lawful (runOf (freshRack replicas clients cells) allowance events .rack)
-    (run-tied (freshRack replicas clients cells) allowance events (fresh-tied replicas clients cells))
+    tied-lawful (runOf (freshRack (ofSizes replicas clients cells)) allowance events .rack)
+    (run-tied (freshRack (ofSizes replicas clients cells)) allowance events (fresh-tied replicas clients cells))
 
 reached-tied : (r : Rack) → Reached r → Tied r
 reached-tied r (made replicas clients cells) = made-tied replicas clients cells

@@ -34,7 +34,7 @@ use Rattle.method.specs.Method.{Starts, Delivers, Copies, OfSlot}
 use Rattle.method.specs.Method.Delivers.{tells, takes, hears, chooses, counts, ends, spends}
 use Rattle.rack.specs.declared.Line.{Line}
 use Rattle.rack.specs.declared.Rack.{Rack}
-use Rattle.rack.specs.Places.{slotLimit, pairLimit, empty, idle, pairPlace, recordOf}
+use Rattle.rack.specs.Places.{ofSizes, slotLimit, pairLimit, empty, idle, pairPlace, recordOf}
 use Rattle.rack.specs.Sound.{soundOf}
 use Rattle.rack.specs.Run.{freshRack, entriesIn, appliedOf, eventOf, turn, runFrom, runOf}
 use Rattle.rack.specs.Refusals.{decided}
@@ -190,7 +190,7 @@ all-same n i a = go (decLt i n)
     go (yes h) = getD-replicate n i a a h
     go (no h) = List·getD-eq-default (replicate n a) a (omega (arith, h, length-replicate n a))
 
-pub fresh-tied : (replicas clients cells : ℕ) → Tied (freshRack replicas clients cells)
+pub fresh-tied : (replicas clients cells : ℕ) → Tied (freshRack (ofSizes replicas clients cells))
 unfolding freshRack recordOf operations notes
 fresh-tied replicas clients cells =
     record {

@@ -15,7 +15,7 @@ use Rattle.method.specs.declared.Event.{Event}
 use Rattle.method.specs.declared.Event.the-variants.{StartRead, StartWrite, Deliver, Lose, Copy, Resend, Stop, Off, On, Unknown}
 use Rattle.rack.specs.declared.Made.{Made}
 use Rattle.method.specs.Plan.{activeParty}
-use Rattle.rack.specs.Places.{idle}
+use Rattle.rack.specs.Places.{ofSizes, idle}
 use Rattle.rack.specs.Sound.{settingsFit, pairFits, bodyFits, messageFits, heldFits, holdingFits, phaseFits, operationFits, workFits, owes, owedBy, soundOf, owedIn}
 use Rattle.rack.specs.Run.{freshRack, madeOf, byte, eventOf}
 use Rattle.rack.specs.laws.Fresh.{fresh-sound}
@@ -128,31 +128,31 @@ not-none-owes r p q = let e : r ≡ 1 = p in omega arith
 
 -- ---- the whole rack
 
-pub not-fresh-unsound : (r : Bool) → r ≡ soundOf (freshRack 15 8 16) → r ≡ false → ⊥
+pub not-fresh-unsound : (r : Bool) → r ≡ soundOf (freshRack (ofSizes 15 8 16)) → r ≡ false → ⊥
 unfolding settingsFit
 not-fresh-unsound r p q = yes-not-no (p ∙ fresh-sound 15 8 16 refl) q
 
-pub not-16-sound : (r : Bool) → r ≡ soundOf (freshRack 16 8 16) → r ≡ true → ⊥
+pub not-16-sound : (r : Bool) → r ≡ soundOf (freshRack (ofSizes 16 8 16)) → r ≡ true → ⊥
 unfolding soundOf settingsFit freshRack
 not-16-sound r p q = yes-not-no q p
 
 -- ---- Rack::made
 
-pub one-made : (replicas clients cells : ℕ) (r r′ : Made) → r ≡ madeOf replicas clients cells → r′ ≡ madeOf replicas clients cells → SameMade r r′
+pub one-made : (replicas clients cells : ℕ) (r r′ : Made) → r ≡ madeOf (ofSizes replicas clients cells) → r′ ≡ madeOf (ofSizes replicas clients cells) → SameMade r r′
 one-made replicas clients cells r r′ p q =
     let e : r ≡ r′ = p ∙ sym q in
     record { refusal = ap (λ (x : Made). x .refusal) e; rack = ap (λ (x : Made). x .rack) e }
 
 -- 15, 8, 16 are made; 16, 8, 16 is refused, and beside it stands no rack of 16 replicas
-pub not-15-refused : (r : Made) → r ≡ madeOf 15 8 16 → r .refusal ≡ 1 → ⊥
+pub not-15-refused : (r : Made) → r ≡ madeOf (ofSizes 15 8 16) → r .refusal ≡ 1 → ⊥
 unfolding madeOf settingsFit
 not-15-refused r p q = let e : r .refusal ≡ 0 = ap (λ (x : Made). x .refusal) p in omega arith
 
-pub not-16-made : (r : Made) → r ≡ madeOf 16 8 16 → r .refusal ≡ 0 → ⊥
+pub not-16-made : (r : Made) → r ≡ madeOf (ofSizes 16 8 16) → r .refusal ≡ 0 → ⊥
 unfolding madeOf settingsFit
 not-16-made r p q = let e : r .refusal ≡ 1 = ap (λ (x : Made). x .refusal) p in omega arith
 
-pub not-beside-16 : (r : Made) → r ≡ madeOf 16 8 16 → r .rack .settings .replicas ≡ 16 → ⊥
+pub not-beside-16 : (r : Made) → r ≡ madeOf (ofSizes 16 8 16) → r .rack .settings .replicas ≡ 16 → ⊥
 unfolding madeOf settingsFit freshRack
 not-beside-16 r p q = let e : r .rack .settings .replicas ≡ 1 = ap (λ (x : Made). x .rack .settings .replicas) p in omega arith
 

@@ -13,7 +13,7 @@ use Rattle.rack.specs.declared.Ran.{Ran}
 use Rattle.method.specs.Plan.{startOf, planOf}
 use Rattle.method.specs.Refusals.{isUnknown, isStart, namesSlot, namesClient, isResend, isDelivery, slotEmpty, clientStopped, alreadyOpen, noneOpen, replicaOff, switchedSo}
 use Rattle.method.specs.Refusals.{opSpent, numberSpent, decisionOf}
-use Rattle.rack.specs.Places.{slotLimit, freeAt, roomOf, sentOf}
+use Rattle.rack.specs.Places.{ofSizes, slotLimit, freeAt, roomOf, sentOf}
 use Rattle.rack.specs.Sound.{settingsFit, owes, owedBy, owedIn, owed}
 use Rattle.method.specs.About.{clientIn, clientOf}
 use Rattle.rack.specs.Run.{freshRack, byte, eventOf, addressed, cleared, recorded, entriesIn, appliedOf, turn, ranOf}
@@ -48,7 +48,7 @@ record Begun (q : Ran) : Type 0 where
   room : roomOf (q .rack .wire) ≡ 253
   count : q .rack .count ≡ 1
 
-begun-from : Begun (orderedFrom 0 (freshRack 3 1 1) 5 (1 ∷ 0 ∷ 0 ∷ 18 ∷ []))
+begun-from : Begun (orderedFrom 0 (freshRack (ofSizes 3 1 1)) 5 (1 ∷ 0 ∷ 0 ∷ 18 ∷ []))
 unfolding setBits hasReplica everyReplica membersFrom ones countFrom firstFrom startOf planOf freeAt roomOf sentOf owes owedBy owedIn owed freshRack byte eventOf
     inRack slotOf clientIn placeIn clientOf isUnknown isStart namesSlot namesClient isResend isDelivery slotEmpty clientStopped alreadyOpen noneOpen replicaOff switchedSo
     opSpent numberSpent decisionOf noted freed checked addressed cleared recorded entriesIn appliedOf turn orderedFrom signedOf
@@ -56,7 +56,7 @@ begun-from = record { done = refl; refusal = refl; room = refl; count = refl }
 
 begun : (q : Ran) → Starts q → Begun q
 unfolding settingsFit
-begun q p = rw (p ∙ ordered (freshRack 3 1 1) 5 (1 ∷ 0 ∷ 0 ∷ 18 ∷ []) (fresh-sound 3 1 1 refl)) begun-from
+begun q p = rw (p ∙ ordered (freshRack (ofSizes 3 1 1)) 5 (1 ∷ 0 ∷ 0 ∷ 18 ∷ []) (fresh-sound 3 1 1 refl)) begun-from
 
 -- a rack that always refuses
 pub not-always-refused : (q : Ran) → Starts q → 0 < q .refusal → ⊥
@@ -84,9 +84,9 @@ done-leaves s allowance ws q p = rw p (run-steps s allowance ws .same)
 
 -- ---- a delivery from a slot that is empty
 
-refused-4 : (q : Ran) → Delivers q → q ≡ ranOf 0 4 (freshRack 3 1 1)
+refused-4 : (q : Ran) → Delivers q → q ≡ ranOf 0 4 (freshRack (ofSizes 3 1 1))
 unfolding settingsFit freshRack eventOf inRack slotOf clientIn placeIn clientOf isUnknown namesSlot slotEmpty decisionOf checked turn orderedFrom
-refused-4 q p = p ∙ ordered (freshRack 3 1 1) 1 (2 ∷ 0 ∷ 0 ∷ 0 ∷ []) (fresh-sound 3 1 1 refl)
+refused-4 q p = p ∙ ordered (freshRack (ofSizes 3 1 1)) 1 (2 ∷ 0 ∷ 0 ∷ 0 ∷ []) (fresh-sound 3 1 1 refl)
 
 -- it isn't done, and it isn't another refusal
 pub not-done-empty : (q : Ran) → Delivers q → q .done ≡ 1 → ⊥

@@ -10,22 +10,12 @@ idle-requires c κs = search needs
 fresh-pair-requires : tie.Need-fresh-pair-requires
 fresh-pair-requires c κs = search needs
 
-sizes-of-requires : tie.Need-sizes-of-requires
-sizes-of-requires c κs = search needs
-
 every-requires : tie.Need-every-requires
 every-requires c κs = search needs
 
 returns : tie.Need-returns
 unfolding freshRack
-returns c = rw (c .every .ensures, c .before .sizes-of .ensures, c .before .before .fresh-pair .ensures, c .before .before .before .idle .ensures)
+returns c = rw (c .every .ensures, c .before .fresh-pair .ensures, c .before .before .idle .ensures)
 
 pub fresh-spec : {M : Type 1} → statement M
-fresh-spec =
-    tie.close
-    (tie.spec
-    idle-requires
-    fresh-pair-requires
-    sizes-of-requires
-    every-requires
-    returns)
+fresh-spec = tie.close (tie.spec idle-requires fresh-pair-requires every-requires returns)
