@@ -91,9 +91,14 @@ module _ (r : Rack) (e : Event) (p : Plan) (k : Tied r) (z : Sized (r .settings)
       as-planned _ (q .plan) (_, (_, chooses-next r e m v name (k .tie) (c .looked) z here own (q .heard) (q .enough) (q .chosen) (q .choice)))
   deliver-next m here own (counts q) = as-planned _ (q .plan) (_, (_, counts-next r e m v name (k .tie) (c .looked) here own (q .counted)))
   deliver-next m here own (ends q) =
-      as-planned _ (q .plan)
-      (_, (_, ends-next r e m v name (k .tie) (c .looked) here own (q .counted) (q .enough)
-      (omega (arith, room, ended-added (p .note) _ (ap (λ (x : Plan). x .note) (q .plan))))))
+      as-planned _ (q .plan) (
+        _,
+        (
+          _,
+          ends-next r e m v name (k .tie) (c .looked) here own (q .counted) (q .enough)
+              (omega (arith, room, ended-added (p .note) _ (ap (λ (x : Plan). x .note) (q .plan)))),
+        ),
+      )
   deliver-next m here own (spends q) =
       as-planned _ q (_, (_, rests-next r e v name (k .tie) (c .looked) (usedUp (sight r e) m) refl refl refl refl refl))
 
