@@ -5,6 +5,9 @@ use method::InSlot;
 use number::Number;
 use rack::Rack;
 use rack::Ran;
+use record::Cell;
+use record::Client;
+use record::Replica;
 
 fn say(words: &[u8]) {
     io::write_all(STDOUT_FILENO, words);
@@ -64,17 +67,31 @@ fn used(rack: Rack) -> u64 {
     count
 }
 
-// Fifteen asks, and copies of the first until there is no free slot: the copy after 241 of them is refused.
+// A start sends an ask to each replica, copies of the first take the slots that are left, and one more is refused.
+const COPIES: usize = Rack::SLOTS - Replica::LIMIT;
+
+const EVENTS: usize = COPIES + 2;
+
+// The most that a rack is made from, and one replica more.
+const REPLICAS: u32 = Replica::LIMIT as u32;
+
+const TOO_MANY: u32 = REPLICAS + 1;
+
+const CLIENTS: u32 = Client::LIMIT as u32;
+
+const CELLS: u32 = Cell::LIMIT as u32;
+
+// Those events on the largest rack.
 fn fill() -> Ran {
-    let mut events = [0u32; 972];
+    let mut events = [0u32; 4 * EVENTS];
     let mut i: usize = 1;
-    while i < 243 {
+    while i < EVENTS {
         events[4 * i] = 4;
         i += 1;
     }
-    let made = Rack::made(15, 8, 16);
+    let made = Rack::made(REPLICAS, CLIENTS, CELLS);
     let rack = made.rack;
-    schedule::run(rack, 243, &events)
+    schedule::run(rack, EVENTS, &events)
 }
 
 // What a full wire allows.
@@ -96,7 +113,7 @@ fn main() {
     read(b"80 00 is ", &[0x80, 0x00]);
     read(b"80 alone is ", &[0x80]);
     read(b"FF FF FF FF 10 is ", &[0xFF, 0xFF, 0xFF, 0xFF, 0x10]);
-    make(b"Sizes 15, 8, 16 are ", 15, 8, 16);
-    make(b"Sizes 16, 8, 16 are ", 16, 8, 16);
+    make(b"Sizes 15, 8, 16 are ", REPLICAS, CLIENTS, CELLS);
+    make(b"Sizes 16, 8, 16 are ", TOO_MANY, CLIENTS, CELLS);
     full();
 }

@@ -6,12 +6,12 @@ use native.Mathlib.Omega.{arith}
 use Rattle.quorum.specs.declared.Quorums.{Quorums}
 use Rattle.quorum.specs.Sets.{withReplica, asksEnough, keepsEnough, within}
 use Rattle.quorum.specs.laws.SetLaws.{with-new, meet}
-use Rattle.stamps.specs.StampOrder.{Rank}
+use Rattle.stamps.specs.StampOrder.{rankLimit, Rank}
 use Rattle.protocol.specs.View.{Setting}
 use Rattle.promise.specs.Has.{Has}
 use Rattle.promise.specs.laws.Meeting.{none, met}
 
--- sets of replicas and quorums of them; a stamp is the number 256 * number + rank
+-- sets of replicas and quorums of them; a stamp is the number `rankLimit` * number + rank
 abbrev pub settingOf : Quorums → Setting
 settingOf q =
     record {
@@ -23,8 +23,8 @@ settingOf q =
       KeepEnough = λ s. (within (q .replicas) s ≡ true) × (keepsEnough q s ≡ true);
       meet = met q;
       Rank = Rank;
-      next = λ s c. (s / 256 + 1) * 256 + c;
-      owner = λ s. s % 256;
+      next = λ s c. (s / rankLimit + 1) * rankLimit + c;
+      owner = λ s. s % rankLimit;
       rises = λ s c. omega arith;
       owned = λ s c h. omega arith;
     }

@@ -1,17 +1,22 @@
--- `bench::fill` is safe and ends: 243 events of four words. Assumes nothing.
-use Prim.Native.Nat.{_-_, _≤_}
+-- `bench::fill` is safe and ends: so many events of four words. Assumes nothing.
+use Prim.Native.Nat.{ℕ, _+_, _-_, _*_, _≤_}
 use mathlib.Core.Path.{_≡_, refl}
 use native.Mathlib.Omega.{arith}
 use lib.ListN.{length}
 use borrow.Author.Needs.{needs}
+use Rattle.rack.specs.Places.{slotLimit, replicaLimit}
 use Rattle.bench.proofs.fill.Statement.{statement}
 use Rattle.bench.proofs.fill.Tie as tie
 
+-- a start, copies for the slots that it leaves, and one more
+abbrev events : ℕ
+events = 2 + (slotLimit - replicaLimit)
+
 abbrev Inv-loop : tie.InvT-loop
-Inv-loop events₀ i₀ events i = (i ≤ 243) × (length events ≡ 972)
+Inv-loop filled₀ i₀ filled i = (i ≤ events) × (length filled ≡ 4 * events)
 
 abbrev μ-loop : tie.MeasureT-loop
-μ-loop events₀ i₀ events i = 243 - i
+μ-loop filled₀ i₀ filled i = events - i
 
 loop-holds : tie.Need-loop-holds Inv-loop μ-loop
 loop-holds c = (omega arith, refl)

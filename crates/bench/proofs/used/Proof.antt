@@ -2,14 +2,15 @@
 use Prim.Native.Nat.{_-_, _≤_}
 use native.Mathlib.Omega.{arith}
 use borrow.Author.Needs.{needs}
+use Rattle.rack.specs.Places.{slotLimit}
 use Rattle.bench.proofs.used.Statement.{statement}
 use Rattle.bench.proofs.used.Tie as tie
 
 abbrev Inv-loop : tie.InvT-loop
-Inv-loop rack count₀ i₀ count i = (count ≤ i) × (i ≤ 256)
+Inv-loop rack count₀ i₀ count i = (count ≤ i) × (i ≤ slotLimit)
 
 abbrev μ-loop : tie.MeasureT-loop
-μ-loop rack count₀ i₀ count i = 256 - i
+μ-loop rack count₀ i₀ count i = slotLimit - i
 
 loop-holds : tie.Need-loop-holds Inv-loop μ-loop
 loop-holds c = (omega arith, omega arith)
