@@ -1,6 +1,6 @@
 -- No other outcome fits a call: two that both meet its contract are the same, in the number done, the refusal and the whole rack, and wrong ones do not
 -- meet it: frauds that the paper names, each on one start or one delivery.
-use Prim.Native.Nat.{ℕ, _<_}
+use Prim.Native.Nat.{ℕ, _-_, _<_}
 use mathlib.Core.Path.{_≡_, refl, ap, sym, _∙_}
 use mathlib.Core.List.{List, [], _∷_}
 use native.Mathlib.Omega.{arith}
@@ -45,7 +45,7 @@ one-step s kind a b v r r′ p q = one-run s 1 (kind ∷ a ∷ b ∷ v ∷ []) r
 record Begun (q : Ran) : Type 0 where
   done : q .done ≡ 1
   refusal : q .refusal ≡ 0
-  room : roomOf (q .rack .wire) ≡ 253
+  room : roomOf (q .rack .wire) ≡ slotLimit - 3
   count : q .rack .count ≡ 1
 
 begun-from : Begun (orderedFrom 0 (freshRack (ofSizes 3 1 1)) 5 (1 ∷ 0 ∷ 0 ∷ 18 ∷ []))

@@ -9,7 +9,7 @@ use borrow.Author.Tests.{eqb-true, eqb-false}
 use lib.Count.{ones}
 use lib.ListN.{getD, set, length, length-set}
 use lib.Seq.{getD-set-same, getD-set-other, set-getD}
-use Rattle.slots.specs.Free.{countFrom, firstFree, takenAt, markedAt}
+use Rattle.slots.specs.Free.{mapWords, countFrom, firstFree, takenAt, markedAt}
 use Rattle.slots.specs.laws.FreeLaws.{taken-here, taken-else, given-here, given-else, count-same, count-most, count-taken, count-given, some-free, lowest-free, lowest-least}
 use Rattle.slots.specs.Words.{Maps, Took}
 use Rattle.slots.specs.laws.Finding.{tied-same}
@@ -175,7 +175,7 @@ module _ (n : ℕ) (v : List Slot) (m : Message) (to : ℕ) (w : List Slot) (fre
       let r : roomOf (set w f (full y)) + 1 ≡ roomOf w = ap (λ (z : List Slot). roomOf z + 1) e ∙ sent-one w (messageTo m (lowestOf left)) (s .long) (sending-room l) in
       record {
         sent = s .sent ∙ sent-next n w m left (lowestOf left) x q ∙ ap (λ (z : List Slot). sentOf z (addressed m (membersOf n x))) (sym e);
-        tied = tied-same 4 (takenAt (freeAt w) f) (freeAt (set w f (full y))) after (t .left) (λ k b. free-taken w f y (omega (arith, s .long)) k);
+        tied = tied-same mapWords (takenAt (freeAt w) f) (freeAt (set w f (full y))) after (t .left) (λ k b. free-taken w f y (omega (arith, s .long)) k);
         enough = omega (arith, s .enough, o, r);
         long = length-set w f (full y) ∙ s .long;
         small = omega (arith, rest-less left l, s .small);
@@ -193,7 +193,7 @@ sending-start n w j b s m to free after es h l f t k o sm nm =
     let e : set w j s ≡ cleared b j w = ap (set w j) es ∙ cleared-is b j w in
     record {
       sent = refl;
-      tied = rw e (tied-same 4 (markedAt b (freeAt w) j) (freeAt (cleared b j w)) after (k (freeAt w) t) (λ i x. free-cleared b j w (omega (arith, l)) i));
+      tied = rw e (tied-same mapWords (markedAt b (freeAt w) j) (freeAt (cleared b j w)) after (k (freeAt w) t) (λ i x. free-cleared b j w (omega (arith, l)) i));
       enough = rw e (omega (arith, o, cleared-room b j w h l f));
       long = length-set w j s ∙ l;
       small = sm;
