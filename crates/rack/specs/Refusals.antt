@@ -1,5 +1,5 @@
 -- When the rack says no: for each number when it applies to a rack and an event, and the smallest that does. The paper: "When the rack says no".
-use Prim.Native.Nat.{ℕ, zero, suc, _+_}
+use Prim.Native.Nat.{ℕ, zero, suc, _+_, _-_}
 use mathlib.Core.Bool.{Bool, true, false, cond, not, _&&_}
 use lib.Dec.{ltb, eqb}
 use lib.Count.{ones}
@@ -60,9 +60,16 @@ unfoldable pub leastFrom : ℕ → ℕ → (ℕ → Bool) → ℕ
 leastFrom zero k f = 0
 leastFrom (suc n) k f = cond (f k) k (leastFrom n (k + 1) f)
 
+-- the table's first and last number
+abbrev pub firstRefusal : ℕ
+firstRefusal = 2
+
+abbrev pub lastRefusal : ℕ
+lastRefusal = 13
+
 -- the smallest number of the table that applies is given, 0 if none does
 unfoldable pub refusalOf : Rack → Event → ℕ
-refusalOf r e = leastFrom 12 2 (λ k. applies k r e)
+refusalOf r e = leastFrom (lastRefusal + 1 - firstRefusal) firstRefusal (λ k. applies k r e)
 
 -- an event that isn't refused is done as planned
 unfoldable pub decided : Rack → Event → Decision

@@ -1,6 +1,6 @@
 -- The table of refusals: a number is given exactly when it applies and no smaller one does, and an event is done exactly when none applies. And the order
 -- in which the code tests gives the same.
-use Prim.Native.Nat.{ℕ, zero, suc, _+_, _≤_, _<_}
+use Prim.Native.Nat.{ℕ, zero, suc, _+_, _-_, _≤_, _<_}
 use mathlib.Core.Path.{_≡_, refl, ap, sym, _∙_}
 use mathlib.Core.Logic.{_≢_, _↔_}
 use mathlib.Core.Bool.{Bool, true, false, cond, not, _&&_}
@@ -29,7 +29,7 @@ use Rattle.rack.specs.declared.Ran.{Ran}
 use Rattle.rack.specs.Places.{roomOf}
 use Rattle.rack.specs.Sound.{owed, soundOf}
 use Rattle.rack.specs.Looking.{inRack, lookedHeld, sight}
-use Rattle.rack.specs.Refusals.{planFor, recordFull, tooMany, wireFull, applies, leastFrom, refusalOf, decided, noted, checked}
+use Rattle.rack.specs.Refusals.{planFor, recordFull, tooMany, wireFull, applies, leastFrom, firstRefusal, lastRefusal, refusalOf, decided, noted, checked}
 use Rattle.rack.specs.Run.{eventOf, appliedOf, ranOf, turn, runFrom}
 
 -- ---- the least number that passes
@@ -85,7 +85,7 @@ none-of (suc n) k f e h i x y = go (f k) refl e (λ w. none-of n (k + 1) f w (om
 
 -- ---- numbers that the table hasn't got
 
-above : (k : ℕ) (r : Rack) (e : Event) → 14 ≤ k → applies k r e ≡ false
+above : (k : ℕ) (r : Rack) (e : Event) → lastRefusal < k → applies k r e ≡ false
 unfolding applies
 above k r e h =
     rw (ne-eqb k 2 (λ q. omega arith), ne-eqb k 3 (λ q. omega arith), ne-eqb k 4 (λ q. omega arith), ne-eqb k 5 (λ q. omega arith))
@@ -112,32 +112,32 @@ pub refused-exactly : (r : Rack) (e : Event) (k : ℕ) → k ≢ 0
     → (refusalOf r e ≡ k) ↔ ((applies k r e ≡ true) × ((j : ℕ) → j < k → applies j r e ≡ false))
 unfolding refusalOf
 refused-exactly r e k d = (
-  λ q. let l = least-of 12 2 (λ j. applies j r e) k q d in (l .passes, every r e k (l .first)),
-  λ (t, b). least-is 12 2 (λ j. applies j r e) k (from t) (to t) t (λ i x y. b i y),
+  λ q. let l = least-of (lastRefusal + 1 - firstRefusal) firstRefusal (λ j. applies j r e) k q d in (l .passes, every r e k (l .first)),
+  λ (t, b). least-is (lastRefusal + 1 - firstRefusal) firstRefusal (λ j. applies j r e) k (from t) (to t) t (λ i x y. b i y),
 )
   where
-    from : applies k r e ≡ true → 2 ≤ k
-    from t = go (ltb k 2) refl
+    from : applies k r e ≡ true → firstRefusal ≤ k
+    from t = go (ltb k firstRefusal) refl
       where
-        go : (u : Bool) → ltb k 2 ≡ u → 2 ≤ k
-        go true q = never (sym (under k r e (ltb-true k 2 q)) ∙ t)
-        go false q = ltb-false k 2 q
+        go : (u : Bool) → ltb k firstRefusal ≡ u → firstRefusal ≤ k
+        go true q = never (sym (under k r e (ltb-true k firstRefusal q)) ∙ t)
+        go false q = ltb-false k firstRefusal q
 
-    to : applies k r e ≡ true → k < 14
-    to t = go (ltb k 14) refl
+    to : applies k r e ≡ true → k < lastRefusal + 1
+    to t = go (ltb k (lastRefusal + 1)) refl
       where
-        go : (u : Bool) → ltb k 14 ≡ u → k < 14
-        go true q = ltb-true k 14 q
-        go false q = never (sym (above k r e (ltb-false k 14 q)) ∙ t)
+        go : (u : Bool) → ltb k (lastRefusal + 1) ≡ u → k < lastRefusal + 1
+        go true q = ltb-true k (lastRefusal + 1) q
+        go false q = never (sym (above k r e (ltb-false k (lastRefusal + 1) q)) ∙ t)
 
 -- an event is done exactly when none applies
 pub done-exactly : (r : Rack) (e : Event) → (refusalOf r e ≡ 0) ↔ ((k : ℕ) → applies k r e ≡ false)
 unfolding refusalOf
-done-exactly r e = (λ q k. go q k (ltb k 14) refl, λ b. least-none 12 2 (λ j. applies j r e) (λ i x y. b i))
+done-exactly r e = (λ q k. go q k (ltb k (lastRefusal + 1)) refl, λ b. least-none (lastRefusal + 1 - firstRefusal) firstRefusal (λ j. applies j r e) (λ i x y. b i))
   where
-    go : leastFrom 12 2 (λ j. applies j r e) ≡ 0 → (k : ℕ) (t : Bool) → ltb k 14 ≡ t → applies k r e ≡ false
-    go q k true u = every r e 14 (λ i x y. none-of 12 2 (λ j. applies j r e) q (omega arith) i x y) k (ltb-true k 14 u)
-    go q k false u = above k r e (ltb-false k 14 u)
+    go : leastFrom (lastRefusal + 1 - firstRefusal) firstRefusal (λ j. applies j r e) ≡ 0 → (k : ℕ) (t : Bool) → ltb k (lastRefusal + 1) ≡ t → applies k r e ≡ false
+    go q k true u = every r e (lastRefusal + 1) (λ i x y. none-of (lastRefusal + 1 - firstRefusal) firstRefusal (λ j. applies j r e) q (omega arith) i x y) k (ltb-true k (lastRefusal + 1) u)
+    go q k false u = above k r e (ltb-false k (lastRefusal + 1) u)
 
 -- ---- what is decided
 
@@ -176,9 +176,9 @@ decided-fit r e k h d q =
     never (sym (ap not h) ∙ u)
 
 -- a number that is given is one of 2 to 13
-pub decided-refuses : (r : Rack) (e : Event) (k : ℕ) → decided r e ≡ No k → (2 ≤ k) × (k ≤ 13)
+pub decided-refuses : (r : Rack) (e : Event) (k : ℕ) → decided r e ≡ No k → (firstRefusal ≤ k) × (k ≤ lastRefusal)
 unfolding refusalOf
-decided-refuses r e k d = let q = decided-no r e k d in let l = least-of 12 2 (λ j. applies j r e) k (q .0) (q .1) in (l .from, omega (arith, l .below))
+decided-refuses r e k d = let q = decided-no r e k d in let l = least-of (lastRefusal + 1 - firstRefusal) firstRefusal (λ j. applies j r e) k (q .0) (q .1) in (l .from, omega (arith, l .below))
 
 -- a refusal leaves rack, wire and record as they were, and stops the schedule
 pub refused-leaves : (done : ℕ) (r : Rack) (e : Event) (k : ℕ) (next : Rack → Ran) → decided r e ≡ No k → turn done r e (decided r e) next ≡ ranOf done k r
