@@ -1,7 +1,7 @@
 # What ./judge and ./drill share: the kit's tools, a program built from these sources and no others, its run, and the exit status. POSIX sh.
-# It defines functions and does nothing by itself. A wrapper sets `program`, its name; `here`, the checkout's folder; `usage`, a function; `awaits`, what
+# include/build-library and examples/build-and-run take the parts about the shell, the kit and the lock. It defines functions and does nothing by itself. A wrapper sets `program`, its name; `here`, the checkout's folder; `usage`, a function; `awaits`, what
 # it reads; and `meanings`, what the program's lines mean: an exit status and awk's pattern for a whole line, one to a line. Then it calls
-# `answer_in_lines`, `answer_in_text` or `answer_in_bytes`.
+# `answer_in_lines`, `answer_in_text` (with the pattern of a text's last line) or `answer_in_bytes`.
 # Exit statuses: 0 lawful, or a run without refusal; 1 unlawful; 2 refused; 3 no answer, or one that couldn't be written. docs/FORMAT.md has them.
 
 say() { printf '%s: %s\n' "$program" "$*" >&2; }
@@ -25,9 +25,17 @@ keep_absolute_path() {
     PATH=${kept:-/usr/bin:/bin}
 }
 
-need_tools() {
-    for tool in awk cat cp cut date env find mkdir mktemp mv rm sha256sum sort tr uname; do
-        command -v "$tool" >/dev/null || give_up "$tool isn't in a folder of PATH"
+# Bash takes functions from the environment. One that is named like a tool or a command of the shell would answer in its place. POSIXLY_CORRECT has
+# bash look for `unset` itself before any function; other shells take no notice.
+drop_foreign_functions() {
+    POSIXLY_CORRECT=1
+    unset -f '[' cd command echo false kill printf pwd read test true umask wait
+}
+
+need_tools() { # TOOL...
+    for tool; do
+        unset -f "$tool"
+        case $(command -v "$tool") in /*) ;; *) give_up "$tool isn't in a folder of PATH" ;; esac
     done
 }
 
@@ -53,6 +61,7 @@ stop_by() { # SIGNAL
 # Whatever ends this shell by itself, an error of its own too, is status 3: it is `outcome` that counts, and only an answer changes it.
 begin() {
     outcome=3 room=''
+    drop_foreign_functions
     set -u
     unset IFS CDPATH
     LC_ALL=C
@@ -67,7 +76,7 @@ begin() {
     done
     keep_absolute_path
     occupy_standard_files
-    need_tools
+    need_tools awk cat cp cut date env find mkdir mktemp mv rm sha256sum sort tail tr uname
 }
 
 make_room() {
@@ -78,6 +87,7 @@ make_room() {
 # ---- the kit
 
 find_rt() {
+    unset -f rt
     rt=$(command -v rt) || give_up "rt, the command of the Rattle kit, isn't in a folder of PATH"
     case $rt in /*) ;; *) give_up "rt is '$rt' here, and not a file with its whole path" ;; esac
     if [ ! -f "$rt" ] || [ ! -x "$rt" ]; then give_up "$rt can't be started"; fi
@@ -131,13 +141,15 @@ crates_of() { # NAME
 sum_sources() { # NAME
     crates=$(crates_of "$1") || return
     # shellcheck disable=SC2086
-    (cd "$here/crates" && find -L $crates -type f \( -path '*/src/*' -o -path '*/specs/*' -o -path '*/proofs/*' \) -exec sha256sum {} +) >"$room/sums" || return
-    { cat "$kit/KIT-ID" "$here/crates.txt" && echo "$machine" && sort "$room/sums"; } | sha256sum | cut -d' ' -f1
+    sums=$(cd "$here/crates" && find -L $crates -type f \( -path '*/src/*' -o -path '*/specs/*' -o -path '*/proofs/*' \) -exec sha256sum {} +) || return
+    { cat "$kit/KIT-ID" "$here/crates.txt" && echo "$machine" && printf '%s\n' "$sums" | sort; } | sha256sum | cut -d' ' -f1
 }
 
-# Copies the program to the room, where nobody replaces it between the look at it and its run, and says what the copy is: by its sum.
+# Copies the program to the room, where nobody replaces it between the look at it and its run, and says what the copy is: by its sum. A copy that
+# finds no room says nothing against the program, which would be deleted and built anew.
 take() { # NAME
-    cp -- "$here/target/bin/$1" "$room/$1" 2>/dev/null || return
+    [ -f "$here/target/bin/$1" ] && [ -r "$here/target/bin/$1" ] || return
+    cp -- "$here/target/bin/$1" "$room/$1" 2>/dev/null || give_up "there is no room in $TMPDIR"
     taken=$(sha256sum <"$room/$1") && taken=${taken%% *}
 }
 
@@ -171,18 +183,24 @@ prove() { # NAME SOURCES
     echo "$2 $taken" >"$here/target/built/$1.new" && mv -f "$here/target/built/$1.new" "$here/target/built/$1" || give_up "$here/target/built/$1 can't be written"
 }
 
-# One build at a time in a checkout. The system itself frees the lock when the builder and all that it started have ended, however they ended.
-build() { # NAME SOURCES
+# One build at a time in a checkout. The system itself frees the lock when the builder and all that it started have ended, however they ended. Who was
+# started by the one that has the lock, with its file 9, has it too.
+lock_checkout() { # WHAT-IS-NOT-BUILT
     lock=$here/target/built/lock
     if ! mkdir -p "$here/target/built" 2>/dev/null || ! ( : >>"$lock" ) 2>/dev/null; then
-        give_up "the program isn't built from these sources yet, and $here/target can't be written"
+        give_up "$1 isn't built from these sources yet, and $here/target can't be written"
     fi
-    command -v flock >/dev/null || give_up "the program isn't built from these sources yet, and to build it flock (util-linux) is needed"
-    exec 9>>"$lock"
+    unset -f flock
+    case $(command -v flock) in /*) ;; *) give_up "$1 isn't built from these sources yet, and to build it flock (util-linux) is needed" ;; esac
+    [ /dev/fd/9 -ef "$lock" ] || exec 9>>"$lock"
     if ! flock -n 9; then
         say "another build is under way in this checkout: waiting for its end"
         flock 9 || give_up "$lock can't be locked"
     fi
+}
+
+build() { # NAME SOURCES
+    lock_checkout "the program"
     take_built "$1" "$2" || prove "$1" "$2"
     exec 9>&-
 }
@@ -195,13 +213,27 @@ make_ready() { # NAME
 
 # ---- inputs
 
-# A file's name as it is shown: a line feed or another control character in it could make a line of its own.
+# A file's name as it is shown: a line feed or another control character in it could make a line of its own. So each byte that isn't part of printable
+# ASCII, or of UTF-8 from U+00A0 on, is `?`: C2 9B is a terminal's control too, and so is 9B by itself.
 shown() { # FILE
     case $1 in
     -) echo "standard input" ;;
-    *[[:cntrl:]]*) printf '%s' "$1" | tr '[:cntrl:]' '?' ;;
+    *[![:print:]]*) printf '%s' "$1" | tr '[:cntrl:]' '?' | printable ;;
     *) printf '%s' "$1" ;;
     esac
+}
+
+printable() {
+    awk '
+        BEGIN {
+            more = "[\200-\277]"
+            known = "^([\040-\176]|\302[\240-\277]|[\303-\337]" more "|\340[\240-\277]" more "|[\341-\357]" more more
+            known = known "|\360[\220-\277]" more more "|[\361-\364]" more more more ")"
+        }
+        { for (rest = $0; rest != ""; rest = substr(rest, size + 1)) {
+            size = match(rest, known) ? RLENGTH : 1
+            printf "%s", (RSTART ? substr(rest, 1, size) : "?")
+        } }'
 }
 
 # Prints why a file can't be opened, and nothing where it can. A pipe isn't tried: its writer would take that for the reader's end.
@@ -237,12 +269,14 @@ answer_one() { # WAY FILE
 
 # ---- answers
 
-# Prints the status that a text means: by the one line of it that is among the meanings, which is all of the text where it has to be one line.
+# Prints the status that a text means: by the one line of it that is among the meanings. A text of several lines has to have `ending` for its last one,
+# and each ends with a line feed: a text that a full disk cut short isn't one.
 meaning() { # FILE
-    MEANINGS=$meanings ONE_LINE=$one_line awk '
+    [ -z "$(tail -c 1 "$1" 2>/dev/null)" ] || { echo unknown && return; }
+    MEANINGS=$meanings ENDING=$ending awk '
         BEGIN { many = split(ENVIRON["MEANINGS"], row, "\n") }
-        { for (k = 1; k <= many; k++) if ($0 ~ "^(" substr(row[k], 3) ")$") { found++; status = substr(row[k], 1, 1) } }
-        END { print (found == 1 && (NR == 1 || !ENVIRON["ONE_LINE"]) ? status : "unknown") }' "$1"
+        { last = $0; for (k = 1; k <= many; k++) if ($0 ~ "^(" substr(row[k], 3) ")$") { found++; status = substr(row[k], 1, 1) } }
+        END { print (found == 1 && (NR == 1 || last ~ "^(" ENVIRON["ENDING"] ")$") ? status : "unknown") }' "$1"
 }
 
 # Sets the result of a run: what its text means, where the program ended well and the text is a known one. Answers whether that is so.
@@ -251,8 +285,20 @@ conclude() { # FILE-WITH-ITS-TEXT
     result=$(meaning "$1")
     if [ "$ended" = 0 ] && [ "$result" != unknown ]; then return; fi
     result=3
-    if [ "$ended" = 0 ]; then say "the program wrote what it never should"; else say "the program failed${ended:+ with status $ended}"; fi
+    say "$(why_no_answer)"
     return 1
+}
+
+# A folder that is mounted noexec has no file that may be run, whatever its mode: the loader then ends with 127, the shell with 126.
+why_no_answer() {
+    case $ended in 126 | 127) [ -x "$room/$binary" ] || { echo "programs can't be run from $TMPDIR: set TMPDIR to another folder" && return; } ;; esac
+    if ! ( echo room >"$room/last" ) 2>/dev/null; then
+        echo "there is no room in $TMPDIR"
+    elif [ "$ended" = 0 ]; then
+        echo "the program wrote what it never should"
+    else
+        echo "the program failed${ended:+ with status $ended}"
+    fi
 }
 
 not_delivered() {
@@ -263,7 +309,7 @@ not_delivered() {
 run_to_end() {
     rm -f "$room/ended"
     run_proved "$room/$binary"
-    echo "$?" >"$room/ended"
+    echo "$?" 2>/dev/null >"$room/ended"
 }
 
 # Passes one known line on as soon as it is there, after the words $1. Then it waits for the program, which reads its input on to the end.
@@ -271,10 +317,10 @@ pass_line() { # WORDS
     delivered=0
     : >"$room/wrote"
     if IFS= read -r line; then
-        printf '%s\n' "$line" >"$room/wrote"
+        printf '%s\n' "$line" 2>/dev/null >"$room/wrote"
         [ "$(meaning "$room/wrote")" = unknown ] || printf '%s%s\n' "$1" "$line" 2>/dev/null || delivered=1
     fi
-    cat >>"$room/wrote"
+    cat 2>/dev/null >>"$room/wrote"
     return "$delivered"
 }
 
@@ -296,7 +342,8 @@ pass_text() { # FILE
     cat "$room/wrote" 2>/dev/null
 }
 
-# A text for each input, with its name over it where there are several, as head does. A program writes its text at the end, so nothing waits for it.
+# A text for each input, with its name over it where there are several, as head does. It is passed on when the program has ended, which is when the input
+# has: that the text is whole is known only then.
 in_text() { # FILE
     run_to_end >"$room/wrote"
     conclude "$room/wrote" || return
@@ -343,7 +390,7 @@ command_of() { # WAY MOST-INPUTS NAME-OF-PROGRAM WORDS...
         -?*) give_up "unknown option $(shown "$word"); '$program --help' says what there is" ;;
         *) set -- "$@" "$word" ;;
         esac
-        [ "$word" != - ] || dashes=$((dashes + 1))
+        case $word in - | /dev/stdin | /dev/fd/0 | /proc/self/fd/0) dashes=$((dashes + 1)) ;; esac
     done
     [ $# -gt 0 ] || set -- -
     [ "$dashes" -le 1 ] || give_up "standard input can be read once only"
@@ -355,6 +402,10 @@ command_of() { # WAY MOST-INPUTS NAME-OF-PROGRAM WORDS...
 }
 
 # The commands of a wrapper: the program's name, then the words that the command was given.
-answer_in_lines() { begin && one_line=1 && command_of in_lines 1000000 "$@"; }
-answer_in_text() { begin && one_line='' && command_of in_text 1000000 "$@"; }
-answer_in_bytes() { begin && one_line=1 && command_of in_bytes 1 "$@"; }
+answer_in_lines() { begin && ending='a text of one line' && command_of in_lines 1000000 "$@"; }
+answer_in_bytes() { begin && ending='a text of one line' && command_of in_bytes 1 "$@"; }
+answer_in_text() { # LAST-LINE NAME-OF-PROGRAM WORDS...
+    ending=$1
+    shift
+    begin && command_of in_text 1000000 "$@"
+}
