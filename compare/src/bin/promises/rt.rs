@@ -1,4 +1,4 @@
-//! A file of code (.rt): its public functions with their contracts, its structs, enums and constants, and its `use` lines.
+//! A file of code (.rt): its public functions with their contracts, its structs, enums, named types and constants, and its `use` lines.
 
 use crate::antt::{read_use, Use};
 use crate::tokens::{tokens, Token};
@@ -212,7 +212,7 @@ fn read_one(source: &[char], item: &[Placed], owner: Option<(&str, &str)>, code:
     }
 }
 
-const ITEMS: [&str; 4] = ["fn", "struct", "enum", "const"];
+const ITEMS: [&str; 5] = ["fn", "struct", "enum", "const", "type"];
 
 /// The place of the word that says what an item is: only `#[no_mangle]`, `pub`, `extern "C"` and, of a function, `const` may stand before it.
 fn keyword_place(item: &[Placed]) -> Option<usize> {
@@ -309,7 +309,7 @@ fn read_inner(source: &[char], item: &[Placed], keyword: usize, code: &mut Code)
     Some(())
 }
 
-/// A public function, a type or a constant. Of other functions only the name counts: they are no part of what is promised.
+/// A public function, a type or a constant (a named type is read as one). Of other functions only the name counts: they are no part of what is promised.
 fn read_item(
     source: &[char],
     item: &[Placed],

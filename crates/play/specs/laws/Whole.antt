@@ -1,4 +1,4 @@
--- 262,144 bytes take all that there is to say of any script.
+-- `textRoom` bytes, 262,144, take all that there is to say of any script.
 use Prim.Native.Nat.{ℕ, _+_, _≤_}
 use mathlib.Core.Path.{_≡_, ap₂, _∙_}
 use mathlib.Core.Bool.{Bool, true, false, cond}
@@ -16,6 +16,7 @@ use Rattle.rack.specs.Sound.{soundOf}
 use Rattle.rack.specs.Run.{madeOf, ranOf, runOf}
 use Rattle.runs.specs.laws.Parts.{run-stays}
 use Rattle.text.specs.Text.{Printed}
+use Rattle.lines.specs.Lines.{textRoom}
 use Rattle.lines.specs.laws.Fits.{ran-fits, fault-fits}
 use Rattle.play.specs.Play.{playedOf, textAfter, drillText}
 use Rattle.rack.specs.Places.{ofSizes}
@@ -32,17 +33,17 @@ played-sound s replicas clients cells allowance first = go (eqb (m .refusal) 0)
     go true = run-stays (m .rack) allowance (wordsOf (eventsFrom s first)) (made-sound replicas clients cells)
     go false = made-sound replicas clients cells
 
-pub drill-fits : (s : List ℕ) → length (drillText s) ≤ 262144
+pub drill-fits : (s : List ℕ) → length (drillText s) ≤ textRoom
 unfolding drillText
 drill-fits s = go (scriptOf s)
   where
-    go : (w : Words) → length (textAfter s w) ≤ 262144
+    go : (w : Words) → length (textAfter s w) ≤ textRoom
     go (Refused refusal byte) = fault-fits refusal byte
     go (Are replicas clients cells allowance first) =
         ran-fits (playedOf s replicas clients cells allowance first) (played-sound s replicas clients cells allowance first)
 
 -- so in as many bytes the text stands whole, and the place after it is its length
-pub drill-whole : (s before : List ℕ) (r : ℕ) (after : List ℕ) → 262144 ≤ length before → Printed before 0 (drillText s) r after
+pub drill-whole : (s before : List ℕ) (r : ℕ) (after : List ℕ) → textRoom ≤ length before → Printed before 0 (drillText s) r after
     → (r ≡ length (drillText s)) × (take r after ≡ drillText s)
 drill-whole s before r after h p =
     let fits : length (drillText s) ≤ length before = omega (arith, drill-fits s) in
