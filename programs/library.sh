@@ -193,6 +193,8 @@ lock_checkout() { # WHAT-IS-NOT-BUILT
     fi
     unset -f flock
     case $(command -v flock) in /*) ;; *) give_up "$1 isn't built from these sources yet, and to build it flock (util-linux) is needed" ;; esac
+    # -ef is in POSIX since 2024, and was in dash, bash and busybox before.
+    # shellcheck disable=SC3013
     [ /dev/fd/9 -ef "$lock" ] || exec 9>>"$lock"
     if ! flock -n 9; then
         say "another build is under way in this checkout: waiting for its end"
