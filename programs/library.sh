@@ -1,5 +1,6 @@
 # What ./judge and ./drill share: the kit's tools, a program built from these sources and no others, its run, and the exit status. POSIX sh.
-# include/build-library and examples/build-and-run take the parts about the shell, the kit and the lock. It defines functions and does nothing by itself. A wrapper sets `program`, its name; `here`, the checkout's folder; `usage`, a function; `awaits`, what
+# include/build-library and examples/build-and-run take the parts about the shell, the kit and the lock.
+# It defines functions and does nothing by itself. A wrapper sets `program`, its name; `here`, the checkout's folder; `usage`, a function; `awaits`, what
 # it reads; and `meanings`, what the program's lines mean: an exit status and awk's pattern for a whole line, one to a line. Then it calls
 # `answer_in_lines`, `answer_in_text` (with the pattern of a text's last line) or `answer_in_bytes`.
 # Exit statuses: 0 lawful, or a run without refusal; 1 unlawful; 2 refused; 3 no answer, or one that couldn't be written. docs/FORMAT.md has them.
@@ -192,6 +193,8 @@ lock_checkout() { # WHAT-IS-NOT-BUILT
     fi
     unset -f flock
     case $(command -v flock) in /*) ;; *) give_up "$1 isn't built from these sources yet, and to build it flock (util-linux) is needed" ;; esac
+    # -ef is in POSIX since 2024, and was in dash, bash and busybox before.
+    # shellcheck disable=SC3013
     [ /dev/fd/9 -ef "$lock" ] || exec 9>>"$lock"
     if ! flock -n 9; then
         say "another build is under way in this checkout: waiting for its end"
