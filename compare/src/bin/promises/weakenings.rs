@@ -123,14 +123,19 @@ const WEAKENINGS: &[Weakening] = &[
         mentions: "Ordered",
     },
     Weakening {
-        label: "one more thing that an event may do",
+        label: "an event that may do anything",
         edits: &[edit(
             "method",
             "Method.antt",
-            "  ends : Ends s client held p → Does s client held p\n",
-            "  ends : Ends s client held p → Does s client held p\n  anything : Does s client held p\n",
+            "Does s held (Stop client) p = Stops s p\n",
+            "Does s held (Stop client) p = s ≡ s\n",
         )],
-        mentions: "anything",
+        mentions: "Does",
+    },
+    Weakening {
+        label: "a named type of the code that is narrower",
+        edits: &[edit("quorum", "lib.rt", "pub type Set = u16;", "pub type Set = u8;")],
+        mentions: "Set",
     },
     Weakening {
         label: "one clause of a definition changed",
@@ -467,7 +472,7 @@ const WEAKENINGS: &[Weakening] = &[
     Weakening {
         label: "a must-fail edit that changes another thing",
         edits: &[
-            edit("", "crates/number/must-fail/seven_bits_short.edit", "new: buf[i] = (128 + m % 127) as u8;", "new: garbage"),
+            edit("", "crates/number/must-fail/seven_bits_short.edit", "new: buf[i] = (GROUP + m % 127) as u8;", "new: garbage"),
         ],
         mentions: "new: garbage",
     },
