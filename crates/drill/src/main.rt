@@ -1,4 +1,5 @@
 // The drill: reads a script from standard input, runs it on the rack that it names, and writes what the run did and left.
+#![tactic(auto)]
 use input::Ending;
 use libc::STDOUT_FILENO;
 

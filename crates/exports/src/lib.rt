@@ -1,4 +1,5 @@
 // The calls for C and Rust: include/adzequarry.h has their declarations. An enum can't cross to C, so an answer is packed into one number.
+#![tactic(auto)]
 ghost use Rattle.std.specs.Prelude.{◌≡◌};
 ghost use Rattle.number.specs.Number.{number_bytes, number_at, put_answer, put_bytes};
 ghost use Rattle.number.specs.Value.{alternating_of, signed_of};

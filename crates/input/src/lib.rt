@@ -1,4 +1,5 @@
 // Standard input: reading it into lent bytes, how that came to its end, and what is left of the input when the program has what it takes.
+#![tactic(auto)]
 ghost use Rattle.std.specs.Prelude.{◌-◌, ◌≤◌, length};
 ghost use Rattle.io.specs.Counts.{IsPrefixLen};
 ghost use Rattle.libc.specs.Io.{Moved};

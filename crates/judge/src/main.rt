@@ -1,4 +1,5 @@
 // The judge: reads a record from standard input, and writes its verdict as one line.
+#![tactic(auto)]
 use input::Ending;
 use libc::STDOUT_FILENO;
 use record::LONGEST_RECORD;

@@ -1,4 +1,5 @@
 // What a call on a rack in lent memory answers. Which word is what, the rack of words and the words of a rack are defined in specs/; no function is needed.
+#![tactic(auto)]
 
 // How many events were done, and the refusal, 0 for none.
 #[derive(Drop)]

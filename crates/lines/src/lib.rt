@@ -1,1 +1,2 @@
 // What the lines of a run say: definitions and theorems, no code.
+#![tactic(auto)]

@@ -1,10 +1,11 @@
 // The kinds of thing that events and plans speak of. What each event does is defined over them in specs/, with the method as its law; no function is needed.
+#![tactic(auto)]
 use quorum::Quorums;
 use record::{Cell, Client, Entry, Replica};
 use stamps::Pair;
 
 // What a message says.
-#[derive(Drop)]
+#[derive(Clone, Copy)]
 pub enum Body {
     Ask,
     Tell(Pair),
@@ -13,7 +14,7 @@ pub enum Body {
 }
 
 // A message: between which client and replica, about which cell, for which operation number.
-#[derive(Drop)]
+#[derive(Clone, Copy)]
 pub struct Message {
     pub client: Client,
     pub replica: Replica,
@@ -23,35 +24,35 @@ pub struct Message {
 }
 
 // What a slot of the wire holds.
-#[derive(Drop)]
+#[derive(Clone, Copy)]
 pub enum InSlot {
     Empty,
     Full(Message),
 }
 
 // What an open operation is for.
-#[derive(Drop)]
+#[derive(Clone, Copy)]
 pub enum Goal {
     Read,
     Write(i32),
 }
 
 // What is held in the ask phase: nothing until somebody has told, and from then on the greatest pair told.
-#[derive(Drop)]
+#[derive(Clone, Copy)]
 pub enum Holding {
     NoPair,
     Holds(Pair),
 }
 
 // The phase of an open operation, with what its client holds in it. In the keep phase that is the pair to be kept.
-#[derive(Drop)]
+#[derive(Clone, Copy)]
 pub enum Phase {
     Asking(Holding),
     Keeping(Pair),
 }
 
 // An open operation: its cell, what it is for, its phase, and the set of replicas that have answered in this phase.
-#[derive(Drop)]
+#[derive(Clone, Copy)]
 pub struct Operation {
     pub cell: Cell,
     pub goal: Goal,
@@ -60,14 +61,14 @@ pub struct Operation {
 }
 
 // What a client is at: nothing, or an open operation.
-#[derive(Drop)]
+#[derive(Clone, Copy)]
 pub enum Work {
     Idle,
     Open(Operation),
 }
 
 // A client of the rack: whether it is stopped, its operation number, and what it is at.
-#[derive(Drop)]
+#[derive(Clone, Copy)]
 pub struct Party {
     pub stopped: bool,
     pub op: u16,
@@ -80,7 +81,7 @@ impl Party {
 }
 
 // What an event looks at: the quorums of the rack, the power, and the client and the pair that it is about.
-#[derive(Drop)]
+#[derive(Clone, Copy)]
 pub struct Sight {
     pub quorums: Quorums,
     pub power: u16,
@@ -89,7 +90,7 @@ pub struct Sight {
 }
 
 // An event. Unknown is what names no kind of event, or a number that no rack has.
-#[derive(Drop)]
+#[derive(Clone, Copy)]
 pub enum Event {
     StartRead(Client, Cell),
     StartWrite(Client, Cell, i32),
@@ -104,7 +105,7 @@ pub enum Event {
 }
 
 // The entry that an event adds to the record, if any.
-#[derive(Drop)]
+#[derive(Clone, Copy)]
 pub enum Note {
     Nothing,
     Asked(Entry),
@@ -113,7 +114,7 @@ pub enum Note {
 
 // What an event leaves: the client and the pair that it looked at, the power, whether its slot becomes empty, the entry it adds, and the message it
 // sends to each replica of a set.
-#[derive(Drop)]
+#[derive(Clone, Copy)]
 pub struct Plan {
     pub party: Party,
     pub pair: Pair,
@@ -125,7 +126,7 @@ pub struct Plan {
 }
 
 // An event is refused, or done as planned.
-#[derive(Drop)]
+#[derive(Clone, Copy)]
 pub enum Decision {
     No(u8),
     Go(Plan),

@@ -1,5 +1,6 @@
 // The pace of single events: reads how many from standard input, a seven-bit number, does as many by `schedule::step`, each a call of its own on a rack of
 // 5 replicas, and writes how many were done. `compare/bench/run racks` times it.
+#![tactic(auto)]
 ghost use Rattle.std.specs.Prelude.{◌≤◌};
 
 use libc::{STDIN_FILENO, STDOUT_FILENO};

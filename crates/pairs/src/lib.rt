@@ -1,4 +1,5 @@
 // The judge's first pass: a record's entries are read, and each end is paired with its start.
+#![tactic(auto)]
 ghost use Rattle.std.specs.Prelude.{◌≡◌, ◌<◌, ◌≤◌};
 ghost use Rattle.record.specs.Entry.{last_client};
 ghost use Rattle.record.specs.Record.{entry_limit};

@@ -1,4 +1,5 @@
 // The replicas that have answered: a set, one bit each, and the ones are counted.
+#![tactic(auto)]
 ghost use Rattle.std.specs.Prelude.{◌≡◌, ◌≤◌, ◌<◌};
 ghost use Rattle.quorum.specs.Sets.{set_bits, has_replica, with_replica, count_of, asks_enough, keeps_enough, every_replica, others, within, without_replica, majority, lowest_of};
 ghost use Rattle.quorum.specs.Sets.{rest_of};
@@ -6,7 +7,7 @@ ghost use Rattle.quorum.specs.Sets.{rest_of};
 use record::Replica;
 
 // What a rack's quorums follow from: how many replicas it has. More than half of them are enough, in either phase.
-#[derive(Drop)]
+#[derive(Clone, Copy)]
 pub struct Quorums {
     pub replicas: u8,
 }

@@ -1,5 +1,6 @@
 // The engine's state: a rack of replicas, clients and cells joined by a wire; its maker, and the answers owed. What events and schedules leave of it is
 // defined in specs/.
+#![tactic(auto)]
 pub mod maker;
 pub mod owed;
 
@@ -8,19 +9,19 @@ use record::{Client, Entry};
 use stamps::Pair;
 
 // A slot of the wire.
-#[derive(Drop)]
+#[derive(Clone, Copy)]
 pub struct Slot {
     pub held: InSlot,
 }
 
 // A place of the record.
-#[derive(Drop)]
+#[derive(Clone, Copy)]
 pub struct Line {
     pub entry: Entry,
 }
 
 // How many replicas, clients and cells a rack has.
-#[derive(Drop)]
+#[derive(Clone, Copy)]
 pub struct Settings {
     pub replicas: u8,
     pub clients: u8,
@@ -29,7 +30,7 @@ pub struct Settings {
 
 // A rack. Of each array only the places within the sizes are part of it, of `lines`, the record, the first `count`, of `power` the bits of its replicas;
 // the pair of replica k for cell x stands at `Cell::LIMIT` k + x. Other places are never looked at and never changed.
-#[derive(Drop)]
+#[derive(Clone, Copy)]
 pub struct Rack {
     pub settings: Settings,
     pub power: u16,

@@ -1,4 +1,5 @@
 // Reading a record: one entry at a place of the bytes, the reading head, and how many entries there are.
+#![tactic(auto)]
 ghost use Rattle.std.specs.Prelude.{◌≡◌};
 ghost use Rattle.number.specs.Number.{number_at};
 ghost use Rattle.record.specs.Entry.{up_to, fields_at, entry_at};
@@ -109,7 +110,7 @@ pub fn entry_at(s: &[u8], at: usize) -> Found
 }
 
 // How far a survey has come: what each client has open, how many entries were taken, and what stopped it (0: nothing).
-#[derive(Drop)]
+#[derive(Clone, Copy)]
 struct Progress {
     standing: Standing,
     taken: usize,

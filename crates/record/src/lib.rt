@@ -1,15 +1,16 @@
 // A rack's record: its entries, and what each client has open after them.
+#![tactic(auto)]
 ghost use Rattle.std.specs.Prelude.{◌≡◌, get_or, set, eqb, cond};
 ghost use Rattle.record.specs.Record.{fresh, fault_after, standing_after};
 
 // A client's number, a replica's and a cell's: kinds of their own.
-#[derive(Drop)]
+#[derive(Clone, Copy)]
 pub struct Client(pub u8);
 
-#[derive(Drop)]
+#[derive(Clone, Copy)]
 pub struct Replica(pub u8);
 
-#[derive(Drop)]
+#[derive(Clone, Copy)]
 pub struct Cell(pub u8);
 
 impl Client {
@@ -32,7 +33,7 @@ impl Cell {
 }
 
 // An entry of the record.
-#[derive(Drop)]
+#[derive(Clone, Copy)]
 pub enum Entry {
     ReadAsked(Client, Cell),
     WriteAsked(Client, Cell, i32),
@@ -41,14 +42,14 @@ pub enum Entry {
 }
 
 // What reading one entry gives: the entry and the place after it, or the refusal.
-#[derive(Drop)]
+#[derive(Clone, Copy)]
 pub enum Found {
     At(Entry, usize),
     Fault(u8),
 }
 
 // What each client has open: nothing is 0, a read 1, a write 2.
-#[derive(Drop)]
+#[derive(Clone, Copy)]
 pub struct Standing {
     pub has: [u8; Client::LIMIT],
 }

@@ -1,5 +1,6 @@
 // The recorder: reads a script from standard input, runs it on the rack that it names, and writes the bytes of the record that the run left. What there is
 // to say of the run goes to standard error, so that standard output has the record and no more.
+#![tactic(auto)]
 use input::Ending;
 use libc::{STDERR_FILENO, STDOUT_FILENO};
 use play::Recorded;

@@ -1,1 +1,2 @@
 // What holds of every schedule, by its definition: definitions and theorems, no code.
+#![tactic(auto)]

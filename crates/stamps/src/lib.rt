@@ -1,9 +1,10 @@
 // Stamps, and the pairs of a stamp and a value: which stamp is the lesser, what a pair becomes when another comes, and the pair that all starts from.
+#![tactic(auto)]
 ghost use Rattle.std.specs.Prelude.{◌≡◌};
 ghost use Rattle.stamps.specs.Stamp.{stamp_less, raised, fresh_pair};
 
 // Stamps compare by number, then rank; a rank is the number of the client that chose the stamp.
-#[derive(Drop)]
+#[derive(Clone, Copy)]
 pub struct Stamp {
     pub number: u32,
     pub rank: u8,
@@ -15,7 +16,7 @@ impl Stamp {
 }
 
 // What a replica keeps for one cell.
-#[derive(Drop)]
+#[derive(Clone, Copy)]
 pub struct Pair {
     pub value: i32,
     pub stamp: Stamp,
