@@ -1,0 +1,12 @@
+-- `events::resend` meets its contract.
+use Rattle.std.proofs.Common.{lt-ltb, le-ltb}
+use Rattle.rack.specs.Run.{byte}
+use Rattle.events.proofs.resend.Goals as goal
+
+pub returns-then-a-ge-BYTE_LIMIT : goal.returns-then-a-ge-BYTE_LIMIT
+unfolding byte
+returns-then-a-ge-BYTE_LIMIT c = rw (le-ltb _ _ c.if-a-ge-BYTE_LIMIT.true)
+
+pub returns : goal.returns
+unfolding byte
+returns c = rw (lt-ltb _ _ c.if-a-ge-BYTE_LIMIT.false)

@@ -1,0 +1,76 @@
+use Rattle.std.proofs.Common.{ℕ, ◌-◌, ◌+◌, ◌^◌, ◌<◌, sym, ◌∙◌, arith}
+use Rattle.number.specs.laws.Steps.{push, push_zero, push_more}
+use Rattle.number.proofs.Laws.{at_end, fifth_high, fifth, low, high, rest_below}
+use Rattle.number.proofs.+read_groups.Goals as goal
+
+-- the rest of the number, where there is one, is below 2 ^ 25
+m-below : (t : ℕ) (c : read-groups-lts.Else5 (read-groups-below t, read-groups.Post) (read-groups-at t) read-groups.Post) → c.before.before.m.given.0.0 < 2 ^ 25
+m-below t c =
+    let a = c.before.before.before.before.before.before.before.before.before.before.args in
+    rest_below a.s.now (a.left - 1) (a.at + 1) c.before.before.m.given.0.0 c.before.before.m.given.0.1.0
+    (λ i. (c.before.before.before.before.before.before.before.shared-slice-known2.given i).fits) (omega arith)
+    (sym c.before.before.before.before.read-groups.ensures ∙ c.before.before.m.given.1)
+
+pub returns-then-at-s : goal.returns-then-at-s
+returns-then-at-s t c =
+    let a = c.args in
+    sym (at_end a.s.now a.at a.left c.if-at-s.true)
+
+pub returns-then-b-gt-FIFTH_MOST : goal.returns-then-b-gt-FIFTH_MOST
+returns-then-b-gt-FIFTH_MOST t c =
+    let a = c.args in
+    sym (fifth_high a.s.now a.at a.left c.if-at-s.false c.if-left-eq0.true (omega (arith, c.if-b-gt-FIFTH_MOST.true)))
+
+pub returns-then-left-eq0 : goal.returns-then-left-eq0
+returns-then-left-eq0 t c =
+    let a = c.args in
+    sym (fifth a.s.now a.at a.left c.if-at-s.false c.if-left-eq0.true (omega (arith, c.if-b-gt-FIFTH_MOST.false)))
+
+pub returns-then-b-lt-MORE : goal.returns-then-b-lt-MORE
+returns-then-b-lt-MORE t c =
+    let a = c.args in
+    sym (low a.s.now a.at a.left c.if-at-s.false c.if-left-eq0.false c.if-b-lt-MORE.true)
+
+pub overflow_cast-result-else-m-eq0 : goal.overflow_cast-result-else-m-eq0
+overflow_cast-result-else-m-eq0 t c =
+    omega (
+  arith,
+  c.type_inv.s
+      c.args.at,
+)
+
+pub overflow_mul-result : goal.overflow_mul-result
+overflow_mul-result t c = omega (arith, m-below t c)
+
+pub overflow_add-result-else-m-eq0 : goal.overflow_add-result-else-m-eq0
+overflow_add-result-else-m-eq0 t c =
+    omega (
+  arith,
+  m-below t c,
+  c.type_inv.s
+      c.args.at,
+)
+
+pub returns-in-Refused : goal.returns-in-Refused
+unfolding push
+returns-in-Refused t c =
+    let a = c.args in
+    sym (high a.s.now a.at a.left _ c.if-at-s.false c.if-left-eq0.false
+    c.if-b-lt-MORE.false
+    (sym c.read_groups.ensures ∙ c.in-Refused.is))
+
+pub returns-then-m-eq0 : goal.returns-then-m-eq0
+returns-then-m-eq0 t c =
+    let a = c.args in
+    sym (high a.s.now a.at a.left _ c.if-at-s.false
+    c.if-left-eq0.false c.if-b-lt-MORE.false
+    (sym c.read_groups.ensures ∙ c.in-Is.is)
+    ∙ push_zero _ _ _ c.if-m-eq0.true)
+
+pub returns-else-m-eq0 : goal.returns-else-m-eq0
+returns-else-m-eq0 t c =
+    let a = c.args in
+    sym (high a.s.now a.at a.left _ c.if-at-s.false
+    c.if-left-eq0.false c.if-b-lt-MORE.false
+    (sym c.read_groups.ensures ∙ c.in-Is.is)
+    ∙ push_more _ _ _ c.if-m-eq0.false)

@@ -1,0 +1,11 @@
+-- `plan::lose_held` meets its contract.
+use Rattle.method.specs.laws.InTurn.{slot_turn}
+use Rattle.plan.proofs.lose_held.Goals as goal
+
+pub returns-in-Empty : goal.returns-in-Empty
+unfolding slot_turn
+returns-in-Empty c = rw c.in-Empty.is
+
+pub returns-in-Full : goal.returns-in-Full
+unfolding slot_turn
+returns-in-Full c = rw (c.used_up.ensures, c.in-Full.is)

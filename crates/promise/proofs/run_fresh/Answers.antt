@@ -1,0 +1,6 @@
+-- The run is the definition's, so the promise holds of it.
+use Rattle.promise.specs.laws.Promise.{promise}
+use Rattle.promise.proofs.run_fresh.Goals as goal
+
+pub returns : goal.returns
+returns c = (rw (c.run.ensures, c.made-made.ensures), rw (c.run.ensures, c.made-made.ensures) (promise _ _ _ _ _))

@@ -1,0 +1,13 @@
+-- `quorum::has` meets its contract: a set has no replica beyond its bits.
+use Rattle.std.proofs.Common.{refl, rules}
+use Rattle.quorum.proofs.Laws.{has_no_bit}
+use Rattle.quorum.specs.Sets.{set_bits, has_replica}
+use Rattle.quorum.proofs.has.Goals as goal
+
+pub returns-then-i-ge-SET_BITS : goal.returns-then-i-ge-SET_BITS
+unfolding set_bits
+returns-then-i-ge-SET_BITS c = has_no_bit c.args.set c.args.k.0 (search rules) c.if-i-ge-SET_BITS.true
+
+pub returns : goal.returns
+unfolding has_replica
+returns c = refl

@@ -1,0 +1,12 @@
+-- `slots::take` meets its contract. The loop's invariant: the words are as they were, and no slot of those passed is free.
+use Rattle.std.proofs.Common.{ℕ, ◌-◌, ◌≤◌, Bool}
+use Rattle.slots.specs.Free.{map_words}
+use Rattle.slots.specs.Words.{Maps}
+use Rattle.slots.specs.laws.Finding.{Passed}
+use Rattle.slots.proofs.take.Given as goal
+
+abbrev pub invariant-loop-j : goal.invariant-loop-j
+invariant-loop-j l = (l.j ≤ map_words) × ((f : ℕ → Bool) → Maps f l.initial.free → (Maps f l.free) × (Passed map_words f l.j))
+
+abbrev pub decreases-loop-j : goal.decreases-loop-j
+decreases-loop-j l = map_words - l.j

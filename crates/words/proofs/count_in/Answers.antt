@@ -1,0 +1,17 @@
+-- `words::count_in` meets its contract.
+use borrow.Author.Tests.{not-true, not-false}
+use Rattle.words.proofs.Reading.{count_more, count_unknown, count_known}
+use Rattle.words.proofs.count_in.Goals as goal
+
+pub returns-then-words-gt-MOST_ENTRIES : goal.returns-then-words-gt-MOST_ENTRIES
+returns-then-words-gt-MOST_ENTRIES c = count_more _ c.if-words-gt-MOST_ENTRIES.true
+
+pub returns-then-not-lines_known : goal.returns-then-not-lines_known
+returns-then-not-lines_known c =
+    count_unknown _ _ _ c.if-words-gt-MOST_ENTRIES.false c.requires.1.0 c.lines_known.ensures
+    (not-true _ c.if-not-lines_known.true)
+
+pub returns : goal.returns
+returns c =
+    count_known _ _ _ c.if-words-gt-MOST_ENTRIES.false c.requires.1.0 c.lines_known.ensures
+    (not-false _ c.if-not-lines_known.false)

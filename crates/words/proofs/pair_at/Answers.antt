@@ -1,0 +1,12 @@
+-- `words::pair_at` meets its contract.
+use Rattle.number.specs.laws.ValueLaws.{signed_of_bits}
+use Rattle.layout.specs.Reading.{pair_in}
+use Rattle.words.proofs.pair_at.Goals as goal
+
+pub returns : goal.returns
+unfolding pair_in
+returns c =
+    rw (
+  signed_of_bits c.signed-value.result _ (c.type_inv.words _).fits c.signed-value.ensures,
+  c.byte_at-rank.ensures,
+)

@@ -1,0 +1,12 @@
+-- `words::put_pair` meets its contract.
+use Rattle.std.proofs.Common.{rules}
+use Rattle.layout.specs.Writing.{pair_words}
+use Rattle.number.specs.laws.ValueLaws.{alternating_of_bits}
+use Rattle.words.proofs.put_pair.Goals as goal
+
+pub returns : goal.returns
+unfolding pair_words
+returns c =
+    simp (alternating_of_bits c.args.pair.value
+    c.alternating.result (search rules) c.alternating.ensures)
+    c.put.ensures
