@@ -3,14 +3,6 @@ use Rattle.number.specs.laws.Steps.{push, push_zero, push_more}
 use Rattle.number.proofs.Laws.{at_end, fifth_high, fifth, low, high, rest_below}
 use Rattle.number.proofs.+read_groups.Goals as goal
 
--- the rest of the number, where there is one, is below 2 ^ 25
-m-below : (t : ℕ) (c : read-groups-lts.Else5 (read-groups-below t, read-groups.Post) (read-groups-at t) read-groups.Post) → c.before.before.m.given.0.0 < 2 ^ 25
-m-below t c =
-    let a = c.before.before.before.before.before.before.before.before.before.before.args in
-    rest_below a.s.now (a.left - 1) (a.at + 1) c.before.before.m.given.0.0 c.before.before.m.given.0.1.0
-    (λ i. (c.before.before.before.before.before.before.before.shared-slice-known2.given i).fits) (omega arith)
-    (sym c.before.before.before.before.read-groups.ensures ∙ c.before.before.m.given.1)
-
 pub returns-then-at-s : goal.returns-then-at-s
 returns-then-at-s t c =
     let a = c.args in
@@ -32,24 +24,20 @@ returns-then-b-lt-MORE t c =
     sym (low a.s.now a.at a.left c.if-at-s.false c.if-left-eq0.false c.if-b-lt-MORE.true)
 
 pub overflow_cast-result-else-m-eq0 : goal.overflow_cast-result-else-m-eq0
-overflow_cast-result-else-m-eq0 t c =
-    omega (
-  arith,
-  c.type_inv.s
-      c.args.at,
-)
+overflow_cast-result-else-m-eq0 t c = omega (arith, c.type_inv.s c.args.at)
 
+-- the rest of the number, where there is one, is below 2 ^ 25
 pub overflow_mul-result : goal.overflow_mul-result
-overflow_mul-result t c = omega (arith, m-below t c)
+overflow_mul-result t c =
+    let below : c.in-Is.m < 2 ^ 25 = rest_below c.args.s.now (c.args.left - 1) (c.args.at + 1) c.in-Is.m c.in-Is.next (λ i. (c.type_inv.s i).fits) (omega arith)
+        (sym c.read_groups.ensures ∙ c.in-Is.is) in
+    omega arith
 
 pub overflow_add-result-else-m-eq0 : goal.overflow_add-result-else-m-eq0
 overflow_add-result-else-m-eq0 t c =
-    omega (
-  arith,
-  m-below t c,
-  c.type_inv.s
-      c.args.at,
-)
+    let below : c.in-Is.m < 2 ^ 25 = rest_below c.args.s.now (c.args.left - 1) (c.args.at + 1) c.in-Is.m c.in-Is.next (λ i. (c.type_inv.s i).fits) (omega arith)
+        (sym c.read_groups.ensures ∙ c.in-Is.is) in
+    omega (arith, c.type_inv.s c.args.at)
 
 pub returns-in-Refused : goal.returns-in-Refused
 unfolding push
