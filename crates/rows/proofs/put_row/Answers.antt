@@ -13,4 +13,4 @@ pub bounds-rows-at-4 : goal.bounds-rows-at-4
 bounds-rows-at-4 c = simp length-set (omega arith)
 
 pub returns : goal.returns
-returns c = put_four c.args.rows.now c.args.at c.args.t3 (search rules)
+returns c = put_four c.args.rows.now c.args.at c.args.row (search rules)

@@ -5,4 +5,4 @@ use Rattle.stamps.specs.Stamp.{fresh_pair}
 use Rattle.show.proofs.pair_at.Goals as goal
 
 pub returns : goal.returns
-returns c = c.fresh_pair.ensures ∙ sym (get_or-eq_default c.args.t1 fresh_pair {n = c.args.place} (omega arith))
+returns c = c.fresh_pair.ensures ∙ sym (get_or-eq_default c.args.pairs fresh_pair {n = c.args.place} (omega arith))

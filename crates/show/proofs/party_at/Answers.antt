@@ -5,4 +5,4 @@ use Rattle.rack.specs.Places.{idle}
 use Rattle.show.proofs.party_at.Goals as goal
 
 pub returns : goal.returns
-returns c = sym (get_or-eq_default c.args.t1 idle {n = c.args.i} (omega arith))
+returns c = sym (get_or-eq_default c.args.parties idle {n = c.args.i} (omega arith))

@@ -4,13 +4,13 @@ use Rattle.show.proofs.Laws.{no_entry, next_entry, all_entries}
 use Rattle.show.proofs.put_entries.Goals as goal
 
 pub loop-i-init : goal.loop-i-init
-loop-i-init c = (search rules, no_entry c.args.t3)
+loop-i-init c = (search rules, no_entry c.args.lines)
 
 pub loop-i-preserved : goal.loop-i-preserved
 loop-i-preserved c =
     (
   search rules,
-  next_entry c.args.t3 _ _
+  next_entry c.args.lines _ _
       (omega (arith, c.loop-i-test.true, c.entries_in-n.ensures))
       c.loop-i.invariant.1 c.put_entry-next.ensures,
 )
@@ -20,5 +20,5 @@ shape_of-out c = printed_length c.loop-i.invariant.1
 
 pub returns : goal.returns
 returns c =
-    all_entries c.args.t3 _ _ (omega arith) c.loop-i.invariant.0
+    all_entries c.args.lines _ _ (omega arith) c.loop-i.invariant.0
     (omega (arith, c.loop-i-test.false, c.entries_in-n.ensures)) c.loop-i.invariant.1
