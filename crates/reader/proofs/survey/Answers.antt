@@ -1,23 +1,32 @@
-use Rattle.std.proofs.Common.{rules, ◌≡◌, ℕ, ◌+◌, ◌-◌, ◌*◌, ◌<◌, ◌≤◌, length, ◌/◌, ◌%◌, Bool, true, false, nat_eq, nat_lt, List, [], ◌∷◌, ◌++◌, slice_index_or, slice_set, bit_and, bit_or, Fits, w8, w32, w64, Bor, MutBor}
-use Rattle.number.specs.Number.{number_at}
-use Rattle.record.specs.Entry.{up_to, fields_at, entry_at}
+use Rattle.std.proofs.Common.{◌≡◌, ℕ, List, length, true, false, refl, sym, ap, ◌∙◌}
+use Rattle.record.specs.declared.Found.{Found}
+use Rattle.record.specs.declared.Answer.{Answer}
 use Rattle.record.specs.Record.{bytes_held, survey_of}
-use Rattle.reader.specs.Head.{under_head, place_after, head_after}
-use Rattle.reader.specs.laws.Survey.{begun, goes_on, stopped, after_found, answer_of}
+use Rattle.reader.specs.declared.ReadingHead.{ReadingHead}
+use Rattle.reader.specs.declared.Progress.{Progress}
+use Rattle.reader.specs.Head.{under_head, head_after}
+use Rattle.reader.specs.laws.Survey.{begun, goes_on, after_found, answer_of}
+use Rattle.reader.specs.laws.SurveySteps.{Surveying, Turned, survey_begins, survey_turns, survey_ends}
 use Rattle.reader.proofs.survey.Goals as goal
 
--- src/lib.rt:191:5
+-- the head that stands over s took an entry that was due: it stands over s at the next place, and fewer turns may follow
+turned : (s : List ℕ) (h h' : ReadingHead) (p p' : Progress) (f : Found) → h.bytes.now ≡ s → Surveying s h.place p → goes_on p h.place (length s) ≡ true
+    → f ≡ under_head h → h' ≡ head_after h → p' ≡ after_found p f → (h'.bytes.now ≡ s) × Turned s h'.place p p'
+turned s h h' p p' f same i due found moved next = rw (moved, next, found, same) (refl, survey_turns s h.place p i due)
+
 pub loop-head-init : goal.loop-head-init
-loop-head-init c = ?
+loop-head-init c = (refl, rw c.begun-progress.ensures (survey_begins _))
 
--- src/lib.rt:191:5
 pub loop-head-smaller : goal.loop-head-smaller
-loop-head-smaller c = ?
+loop-head-smaller c =
+    (turned _ _ _ _ _ _ c.loop-head.invariant.0 c.loop-head.invariant.1 (sym c.goes_on.ensures ∙ c.loop-head-test.true) c.take-found.ensures.0 c.take-found.ensures.1
+        c.after-progress.ensures).1.fewer
 
--- src/lib.rt:191:5
 pub loop-head-preserved : goal.loop-head-preserved
-loop-head-preserved c = ?
+loop-head-preserved c =
+    let t = turned _ _ _ _ _ _ c.loop-head.invariant.0 c.loop-head.invariant.1 (sym c.goes_on.ensures ∙ c.loop-head-test.true) c.take-found.ensures.0 c.take-found.ensures.1
+        c.after-progress.ensures in
+    (t.0, t.1.after)
 
--- src/lib.rt:186:1
 pub returns : goal.returns
-returns c = ?
+returns c = c.answer_of.ensures ∙ survey_ends _ _ _ c.loop-head.invariant.1 (sym c.goes_on.ensures ∙ c.loop-head-test.false)

@@ -1,13 +1,10 @@
-use Rattle.std.proofs.Common.{◌≡◌, ℕ, ◌+◌, ◌-◌, ◌*◌, ◌<◌, ◌≤◌, length}
-use Rattle.number.specs.Number.{number_at}
-use Rattle.record.specs.Entry.{up_to, fields_at, entry_at}
-use Rattle.record.specs.Record.{bytes_held, survey_of}
-use Rattle.reader.specs.Head.{under_head, place_after, head_after}
-use Rattle.reader.specs.laws.Survey.{begun, goes_on, stopped, after_found, answer_of}
+-- `reader::survey` meets its contract. The invariant: the head stands over the lent bytes, and the survey has come to its place. The measure: the turns that may follow.
+use Rattle.std.proofs.Common.{◌≡◌}
+use Rattle.reader.specs.laws.SurveySteps.{Surveying, turns_left}
 use Rattle.reader.proofs.survey.Given as goal
 
 abbrev pub invariant-loop-head : goal.invariant-loop-head
-invariant-loop-head l = ?
+invariant-loop-head l = (l.head.bytes.now ≡ l.s) × Surveying l.s l.head.place l.progress
 
 abbrev pub decreases-loop-head : goal.decreases-loop-head
-decreases-loop-head l = ?
+decreases-loop-head l = turns_left l.progress
