@@ -1,5 +1,4 @@
 use Rattle.std.proofs.Common.{arith, ◌-◌}
-use borrow.Author.Tests.{not-true, not-false}
 use Rattle.chains.proofs.Entering.{chained_none, none_yet, none_more, links_all, links_again, stays_on, stays_none}
 use Rattle.chains.proofs.link.Goals as goal
 
@@ -8,7 +7,7 @@ loop-p-init c = (omega arith, chained_none c.requires.1, none_yet _ _ _, stays_n
 
 pub returns-then-not-enter : goal.returns-then-not-enter
 returns-then-not-enter c =
-    let no = not-true _ c.if-not-enter.true in
+    let no = c.if-not-enter.true in
     let inv = c.loop-p.invariant in
     let e = c.enter.ensures in
     links_again c.loop-p-test.true (e.again no) inv.2
@@ -16,7 +15,7 @@ returns-then-not-enter c =
 
 pub loop-p-preserved : goal.loop-p-preserved
 loop-p-preserved c =
-    let yes = not-false _ c.if-not-enter.false in
+    let yes = c.if-not-enter.false in
     let more = c.enter.ensures.entered yes in
     let inv = c.loop-p.invariant in
     (omega arith, more.0, none_more more.1 inv.2, stays_on inv.3 (c.enter.ensures.others yes))

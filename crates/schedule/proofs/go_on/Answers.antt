@@ -1,5 +1,4 @@
 use Rattle.std.proofs.Common.{rules, ◌-◌, refl, sym, ◌∙◌, arith}
-use borrow.Author.Tests.{not-true, not-false}
 use Rattle.quorum.specs.laws.LowestMember.{rest_less}
 use Rattle.runs.specs.laws.Sending.{sending_place, sending_more}
 use Rattle.runs.specs.laws.Loop.{going_start, going_out, going_no, not_there, there_slot, there, going_plan, room_fits, going_send, going_entry, going_on}
@@ -23,7 +22,7 @@ returns-then-not-in_rack c =
     c.ran.ensures
     ∙ going_no _ _ _ _ _ _ _ c.loop-i.invariant.2 _ c.event_at-event.ensures _ _
     (not_there _ _ _ _ _ _ _ c.loop-i.invariant.2 _ (sym c.in_rack.ensures
-    ∙ not-true _ c.if-not-in_rack.true)) c.loop-i.invariant.0 c.loop-i-test.true
+    ∙ c.if-not-in_rack.true)) c.loop-i.invariant.0 c.loop-i-test.true
 
 pub offset_bounds-r-j : goal.offset_bounds-r-j
 offset_bounds-r-j c =
@@ -31,14 +30,14 @@ offset_bounds-r-j c =
   fits = omega (
     arith,
     there_slot _ _ _ _ _ _ _ c.loop-i.invariant.2 _ _ (sym c.in_rack.ensures
-        ∙ not-false _ c.if-not-in_rack.false) c.slot_of-j.ensures,
+        ∙ c.if-not-in_rack.false) c.slot_of-j.ensures,
   );
 }
 
 pub bounds-r-j : goal.bounds-r-j
 bounds-r-j c =
     there_slot _ _ _ _ _ _ _ c.loop-i.invariant.2 _ _ (sym c.in_rack.ensures
-    ∙ not-false _ c.if-not-in_rack.false) c.slot_of-j.ensures
+    ∙ c.if-not-in_rack.false) c.slot_of-j.ensures
 
 pub offset_bounds-r-c : goal.offset_bounds-r-c
 offset_bounds-r-c c =
@@ -47,7 +46,7 @@ offset_bounds-r-c c =
     arith,
     (there _ _ _ _ _ _ _ c.loop-i.invariant.2 _ _ _ _
         (sym c.in_rack.ensures
-        ∙ not-false _ c.if-not-in_rack.false) c.slot_of-j.ensures c.client_of-c.ensures c.place_in-a.ensures).client,
+        ∙ c.if-not-in_rack.false) c.slot_of-j.ensures c.client_of-c.ensures c.place_in-a.ensures).client,
   );
 }
 
@@ -55,7 +54,7 @@ pub bounds-r-c : goal.bounds-r-c
 bounds-r-c c =
     (there _ _ _ _ _ _ _ c.loop-i.invariant.2 _ _ _ _
     (sym c.in_rack.ensures
-    ∙ not-false _ c.if-not-in_rack.false) c.slot_of-j.ensures c.client_of-c.ensures c.place_in-a.ensures).client
+    ∙ c.if-not-in_rack.false) c.slot_of-j.ensures c.client_of-c.ensures c.place_in-a.ensures).client
 
 pub offset_bounds-r-a : goal.offset_bounds-r-a
 offset_bounds-r-a c =
@@ -64,7 +63,7 @@ offset_bounds-r-a c =
     arith,
     (there _ _ _ _ _ _ _ c.loop-i.invariant.2 _ _ _ _
         (sym c.in_rack.ensures
-        ∙ not-false _ c.if-not-in_rack.false) c.slot_of-j.ensures c.client_of-c.ensures
+        ∙ c.if-not-in_rack.false) c.slot_of-j.ensures c.client_of-c.ensures
         c.place_in-a.ensures).pair,
   );
 }
@@ -73,7 +72,7 @@ pub bounds-r-a : goal.bounds-r-a
 bounds-r-a c =
     (there _ _ _ _ _ _ _ c.loop-i.invariant.2 _ _ _ _
     (sym c.in_rack.ensures
-    ∙ not-false _ c.if-not-in_rack.false) c.slot_of-j.ensures c.client_of-c.ensures
+    ∙ c.if-not-in_rack.false) c.slot_of-j.ensures c.client_of-c.ensures
     c.place_in-a.ensures).pair
 
 pub returns-in-No : goal.returns-in-No
@@ -82,7 +81,7 @@ returns-in-No c =
     c.loop-i.invariant.2 _
     c.event_at-event.ensures _ _
     (going_plan _ _ _ _ _ _ _ c.loop-i.invariant.2 _ _ _ _ _ _ (sym c.in_rack.ensures
-    ∙ not-false _ c.if-not-in_rack.false)
+    ∙ c.if-not-in_rack.false)
     c.slot_of-j.ensures
     c.client_of-c.ensures
     c.place_in-a.ensures c.plan-planned.ensures
@@ -96,7 +95,7 @@ room_after-room-requires c =
     room_fits _ _ _ _ _ _ _
     c.loop-i.invariant.2 _ _
     (going_plan _ _ _ _ _ _ _ c.loop-i.invariant.2 _ _ _ _ _ _ (sym c.in_rack.ensures
-    ∙ not-false _ c.if-not-in_rack.false)
+    ∙ c.if-not-in_rack.false)
     c.slot_of-j.ensures
     c.client_of-c.ensures
     c.place_in-a.ensures c.plan-planned.ensures
@@ -109,7 +108,7 @@ offset_bounds-r-c-in-Go c =
     arith,
     (there _ _ _ _ _ _ _ c.loop-i.invariant.2 _ _ _ _ (sym
         c.in_rack.ensures
-        ∙ not-false _ c.if-not-in_rack.false)
+        ∙ c.if-not-in_rack.false)
         c.slot_of-j.ensures
         c.client_of-c.ensures
         c.place_in-a.ensures).client,
@@ -121,7 +120,7 @@ bounds-r-c-in-Go c =
     (there _ _ _ _ _ _ _
     c.loop-i.invariant.2 _ _ _
     _ (sym c.in_rack.ensures
-    ∙ not-false _ c.if-not-in_rack.false)
+    ∙ c.if-not-in_rack.false)
     c.slot_of-j.ensures
     c.client_of-c.ensures
     c.place_in-a.ensures).client
@@ -133,7 +132,7 @@ offset_bounds-r-a-in-Go c =
     arith,
     (there _ _ _ _ _ _ _ c.loop-i.invariant.2 _ _ _ _
         (sym c.in_rack.ensures
-        ∙ not-false _ c.if-not-in_rack.false)
+        ∙ c.if-not-in_rack.false)
         c.slot_of-j.ensures
         c.client_of-c.ensures
         c.place_in-a.ensures).pair,
@@ -144,7 +143,7 @@ pub bounds-r-a-in-Go : goal.bounds-r-a-in-Go
 bounds-r-a-in-Go c =
     (there _ _ _ _ _ _ _
     c.loop-i.invariant.2 _ _ _ _ (sym c.in_rack.ensures
-    ∙ not-false _ c.if-not-in_rack.false)
+    ∙ c.if-not-in_rack.false)
     c.slot_of-j.ensures
     c.client_of-c.ensures
     c.place_in-a.ensures).pair
@@ -156,7 +155,7 @@ offset_bounds-r-j-in-Go c =
     arith,
     (there _ _ _ _ _ _ _ c.loop-i.invariant.2 _ _ _ _
         (sym c.in_rack.ensures
-        ∙ not-false _ c.if-not-in_rack.false)
+        ∙ c.if-not-in_rack.false)
         c.slot_of-j.ensures
         c.client_of-c.ensures
         c.place_in-a.ensures).slot,
@@ -167,7 +166,7 @@ pub bounds-r-j-in-Go : goal.bounds-r-j-in-Go
 bounds-r-j-in-Go c =
     (there _ _ _ _ _ _ _
     c.loop-i.invariant.2 _ _ _ _ (sym c.in_rack.ensures
-    ∙ not-false _ c.if-not-in_rack.false)
+    ∙ c.if-not-in_rack.false)
     c.slot_of-j.ensures
     c.client_of-c.ensures
     c.place_in-a.ensures).slot
@@ -179,7 +178,7 @@ offset_bounds-r-j-in-Go-2 c =
     arith,
     (there _ _ _ _ _ _ _ c.loop-i.invariant.2 _ _ _ _
         (sym c.in_rack.ensures
-        ∙ not-false _ c.if-not-in_rack.false)
+        ∙ c.if-not-in_rack.false)
         c.slot_of-j.ensures
         c.client_of-c.ensures
         c.place_in-a.ensures).slot,
@@ -191,7 +190,7 @@ bounds-r-j-in-Go-2 c =
     (there _ _ _ _ _ _ _
     c.loop-i.invariant.2 _ _ _ _ (sym
     c.in_rack.ensures
-    ∙ not-false _ c.if-not-in_rack.false)
+    ∙ c.if-not-in_rack.false)
     c.slot_of-j.ensures
     c.client_of-c.ensures
     c.place_in-a.ensures).slot
@@ -203,8 +202,7 @@ loop-left-init c =
   send = going_send _ _ _ _ _ _ _
       c.loop-i.invariant.2 _ _ c.in-Go.p _ _
       (going_plan _ _ _ _ _ _ _ c.loop-i.invariant.2 _ _ _ _ _ _
-      (sym c.in_rack.ensures ∙ not-false _
-      c.if-not-in_rack.false)
+      (sym c.in_rack.ensures ∙ c.if-not-in_rack.false)
       c.slot_of-j.ensures
       c.client_of-c.ensures
       c.place_in-a.ensures
@@ -273,7 +271,7 @@ loop-i-preserved-in-Nothing c =
       c.in-Go.p _ _ _ _
       (going_plan _ _ _ _ _ _ _ c.loop-i.invariant.2 _ _ _ _ _ _
       (sym c.in_rack.ensures
-      ∙ not-false _ c.if-not-in_rack.false)
+      ∙ c.if-not-in_rack.false)
       c.slot_of-j.ensures
       c.client_of-c.ensures c.place_in-a.ensures
       c.plan-planned.ensures
@@ -301,7 +299,7 @@ offset_bounds-r-t c =
         c.in-Go.p
         (going_plan _ _ _ _ _ _ _ c.loop-i.invariant.2 _ _ _ _ _ _
         (sym c.in_rack.ensures
-        ∙ not-false _ c.if-not-in_rack.false)
+        ∙ c.if-not-in_rack.false)
         c.slot_of-j.ensures
         c.client_of-c.ensures c.place_in-a.ensures
         c.plan-planned.ensures
@@ -319,7 +317,7 @@ bounds-r-t c =
     c.in-Go.p
     (going_plan _ _ _ _ _ _ _ c.loop-i.invariant.2 _ _ _ _ _ _
     (sym c.in_rack.ensures
-    ∙ not-false _ c.if-not-in_rack.false)
+    ∙ c.if-not-in_rack.false)
     c.slot_of-j.ensures
     c.client_of-c.ensures c.place_in-a.ensures
     c.plan-planned.ensures
@@ -338,7 +336,7 @@ overflow_add-r c =
         c.in-Go.p
         (going_plan _ _ _ _ _ _ _ c.loop-i.invariant.2 _ _ _ _ _ _
         (sym c.in_rack.ensures
-        ∙ not-false _ c.if-not-in_rack.false)
+        ∙ c.if-not-in_rack.false)
         c.slot_of-j.ensures
         c.client_of-c.ensures c.place_in-a.ensures
         c.plan-planned.ensures
@@ -370,7 +368,7 @@ loop-i-preserved-in-Asked c =
       c.in-Go.p _ _ _ _
       (going_plan _ _ _ _ _ _ _ c.loop-i.invariant.2 _ _ _ _ _ _
       (sym c.in_rack.ensures
-      ∙ not-false _ c.if-not-in_rack.false)
+      ∙ c.if-not-in_rack.false)
       c.slot_of-j.ensures
       c.client_of-c.ensures c.place_in-a.ensures
       c.plan-planned.ensures
@@ -399,7 +397,7 @@ offset_bounds-r-t-in-Ended c =
         c.in-Go.p
         (going_plan _ _ _ _ _ _ _ c.loop-i.invariant.2 _ _ _ _ _ _
         (sym c.in_rack.ensures
-        ∙ not-false _ c.if-not-in_rack.false)
+        ∙ c.if-not-in_rack.false)
         c.slot_of-j.ensures
         c.client_of-c.ensures c.place_in-a.ensures
         c.plan-planned.ensures
@@ -417,7 +415,7 @@ bounds-r-t-in-Ended c =
     c.in-Go.p
     (going_plan _ _ _ _ _ _ _ c.loop-i.invariant.2 _ _ _ _ _ _
     (sym c.in_rack.ensures
-    ∙ not-false _ c.if-not-in_rack.false)
+    ∙ c.if-not-in_rack.false)
     c.slot_of-j.ensures
     c.client_of-c.ensures c.place_in-a.ensures
     c.plan-planned.ensures
@@ -436,7 +434,7 @@ overflow_add-r-in-Ended c =
         c.in-Go.p
         (going_plan _ _ _ _ _ _ _ c.loop-i.invariant.2 _ _ _ _ _ _
         (sym c.in_rack.ensures
-        ∙ not-false _ c.if-not-in_rack.false)
+        ∙ c.if-not-in_rack.false)
         c.slot_of-j.ensures
         c.client_of-c.ensures c.place_in-a.ensures
         c.plan-planned.ensures
@@ -468,7 +466,7 @@ loop-i-preserved c =
       c.in-Go.p _ _ _ _
       (going_plan _ _ _ _ _ _ _ c.loop-i.invariant.2 _ _ _ _ _ _
       (sym c.in_rack.ensures
-      ∙ not-false _ c.if-not-in_rack.false)
+      ∙ c.if-not-in_rack.false)
       c.slot_of-j.ensures
       c.client_of-c.ensures c.place_in-a.ensures
       c.plan-planned.ensures

@@ -1,6 +1,5 @@
 -- `soundness::operation_fits` meets its contract.
 use Rattle.std.proofs.Common.{sym, ◌∙◌, lt-ltb, le-ltb}
-use borrow.Author.Tests.{not-true, not-false}
 use Rattle.rack.specs.Sound.{operation_fits}
 use Rattle.soundness.proofs.operation_fits.Goals as goal
 
@@ -10,7 +9,7 @@ returns-then-settings-cell c = rw (le-ltb _ _ c.if-settings-cell.true)
 
 pub returns-then-not-within : goal.returns-then-not-within
 unfolding operation_fits
-returns-then-not-within c = rw (lt-ltb _ _ c.if-settings-cell.false, sym c.within.ensures ∙ not-true _ c.if-not-within.true)
+returns-then-not-within c = rw (lt-ltb _ _ c.if-settings-cell.false, sym c.within.ensures ∙ c.if-not-within.true)
 
 pub returns : goal.returns
 unfolding operation_fits
@@ -18,5 +17,5 @@ returns c =
     rw (
   c.phase_fits.ensures,
   lt-ltb _ _ c.if-settings-cell.false,
-  sym c.within.ensures ∙ not-false _ c.if-not-within.false,
+  sym c.within.ensures ∙ c.if-not-within.false,
 )

@@ -1,5 +1,4 @@
 use Rattle.std.proofs.Common.{◌-◌, sym, ◌∙◌, true, rules}
-use borrow.Author.Tests.{not-true, not-false}
 use Rattle.rack.specs.Sound.{pairs_fit}
 use Rattle.rack.specs.laws.Tests.{all_none, all_next, all_fail}
 use Rattle.soundness.proofs.Laws.{all_end}
@@ -12,14 +11,14 @@ pub returns-then-not-replica_fits : goal.returns-then-not-replica_fits
 unfolding pairs_fit
 returns-then-not-replica_fits c =
     sym (all_fail _ c.loop-k.k _ c.loop-k-test.true (sym c.replica_fits.ensures
-    ∙ not-true _ c.if-not-replica_fits.true))
+    ∙ c.if-not-replica_fits.true))
 
 pub loop-k-preserved : goal.loop-k-preserved
 loop-k-preserved c =
     (
   search rules,
   all_next c.loop-k.k _ c.loop-k.invariant.1 (sym c.replica_fits.ensures
-      ∙ not-false _ c.if-not-replica_fits.false),
+      ∙ c.if-not-replica_fits.false),
 )
 
 pub returns : goal.returns

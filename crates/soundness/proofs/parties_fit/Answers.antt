@@ -1,5 +1,4 @@
 use Rattle.std.proofs.Common.{◌-◌, sym, ◌∙◌, true, rules}
-use borrow.Author.Tests.{not-true, not-false}
 use Rattle.rack.specs.Sound.{work_fits, parties_fit}
 use Rattle.rack.specs.laws.Tests.{all_none, all_next, all_fail}
 use Rattle.soundness.proofs.Laws.{all_end}
@@ -12,14 +11,14 @@ pub returns-then-not-work_fits : goal.returns-then-not-work_fits
 unfolding parties_fit
 returns-then-not-work_fits c =
     sym (all_fail _ c.loop-i.i _ c.loop-i-test.true (sym c.work_fits.ensures
-    ∙ not-true _ c.if-not-work_fits.true))
+    ∙ c.if-not-work_fits.true))
 
 pub loop-i-preserved : goal.loop-i-preserved
 loop-i-preserved c =
     (
   search rules,
   all_next c.loop-i.i _ c.loop-i.invariant.1 (sym c.work_fits.ensures
-      ∙ not-false _ c.if-not-work_fits.false),
+      ∙ c.if-not-work_fits.false),
 )
 
 pub returns : goal.returns

@@ -1,13 +1,12 @@
 -- `soundness::parts_fit` meets its contract.
 use Rattle.std.proofs.Common.{sym, ◌∙◌}
-use borrow.Author.Tests.{not-true, not-false}
 use Rattle.rack.specs.Sound.{sound_of}
 use Rattle.rack.specs.laws.SoundLaws.{sized}
 use Rattle.soundness.proofs.parts_fit.Goals as goal
 
 pub returns-then-not-wire_fits : goal.returns-then-not-wire_fits
 unfolding sound_of
-returns-then-not-wire_fits c = rw (c.requires, sym c.wire_fits.ensures ∙ not-true _ c.if-not-wire_fits.true)
+returns-then-not-wire_fits c = rw (c.requires, sym c.wire_fits.ensures ∙ c.if-not-wire_fits.true)
 
 pub pairs_fit-requires : goal.pairs_fit-requires
 pairs_fit-requires c = let z = sized c.args.rack.settings c.requires in (z.replicas, z.cells)
@@ -18,8 +17,8 @@ returns-then-not-pairs_fit c =
     rw (
   c.requires,
   sym c.wire_fits.ensures
-      ∙ not-false _ c.if-not-wire_fits.false,
-  sym c.pairs_fit.ensures ∙ not-true _ c.if-not-pairs_fit.true,
+      ∙ c.if-not-wire_fits.false,
+  sym c.pairs_fit.ensures ∙ c.if-not-pairs_fit.true,
 )
 
 pub parties_fit-requires : goal.parties_fit-requires
@@ -31,10 +30,10 @@ returns-then-not-parties_fit c =
     rw (
   c.requires,
   sym c.wire_fits.ensures
-      ∙ not-false _ c.if-not-wire_fits.false,
+      ∙ c.if-not-wire_fits.false,
   sym c.pairs_fit.ensures
-      ∙ not-false _ c.if-not-pairs_fit.false,
-  sym c.parties_fit.ensures ∙ not-true _ c.if-not-parties_fit.true,
+      ∙ c.if-not-pairs_fit.false,
+  sym c.parties_fit.ensures ∙ c.if-not-parties_fit.true,
 )
 
 pub returns : goal.returns
@@ -44,8 +43,8 @@ returns c =
   c.record_fits.ensures,
   c.requires,
   sym c.wire_fits.ensures
-      ∙ not-false _ c.if-not-wire_fits.false,
+      ∙ c.if-not-wire_fits.false,
   sym c.pairs_fit.ensures
-      ∙ not-false _ c.if-not-pairs_fit.false,
-  sym c.parties_fit.ensures ∙ not-false _ c.if-not-parties_fit.false,
+      ∙ c.if-not-pairs_fit.false,
+  sym c.parties_fit.ensures ∙ c.if-not-parties_fit.false,
 )

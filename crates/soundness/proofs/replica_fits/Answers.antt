@@ -1,5 +1,4 @@
 use Rattle.std.proofs.Common.{◌-◌, sym, ◌∙◌, true, rules}
-use borrow.Author.Tests.{not-true, not-false}
 use Rattle.rack.specs.Sound.{pair_fits}
 use Rattle.rack.specs.laws.Tests.{all_none, all_next, all_fail}
 use Rattle.soundness.proofs.Laws.{all_end}
@@ -11,14 +10,14 @@ loop-x-init c = (search rules, all_none _)
 pub returns-then-not-pair_fits : goal.returns-then-not-pair_fits
 returns-then-not-pair_fits c =
     sym (all_fail _ c.loop-x.x _ c.loop-x-test.true (sym c.pair_fits.ensures
-    ∙ not-true _ c.if-not-pair_fits.true))
+    ∙ c.if-not-pair_fits.true))
 
 pub loop-x-preserved : goal.loop-x-preserved
 loop-x-preserved c =
     (
   search rules,
   all_next c.loop-x.x _ c.loop-x.invariant.1 (sym c.pair_fits.ensures
-      ∙ not-false _ c.if-not-pair_fits.false),
+      ∙ c.if-not-pair_fits.false),
 )
 
 pub returns : goal.returns

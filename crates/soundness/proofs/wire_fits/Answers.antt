@@ -1,5 +1,4 @@
 use Rattle.std.proofs.Common.{◌-◌, sym, ◌∙◌, true, rules}
-use borrow.Author.Tests.{not-true, not-false}
 use Rattle.rack.specs.Places.{slot_limit}
 use Rattle.rack.specs.Sound.{held_fits, wire_fits}
 use Rattle.rack.specs.laws.Tests.{all_none, all_next, all_fail}
@@ -13,14 +12,14 @@ pub returns-then-not-held_fits : goal.returns-then-not-held_fits
 unfolding wire_fits
 returns-then-not-held_fits c =
     sym (all_fail slot_limit c.loop-i.i _ c.loop-i-test.true (sym c.held_fits.ensures
-    ∙ not-true _ c.if-not-held_fits.true))
+    ∙ c.if-not-held_fits.true))
 
 pub loop-i-preserved : goal.loop-i-preserved
 loop-i-preserved c =
     (
   search rules,
   all_next c.loop-i.i _ c.loop-i.invariant.1 (sym c.held_fits.ensures
-      ∙ not-false _ c.if-not-held_fits.false),
+      ∙ c.if-not-held_fits.false),
 )
 
 pub returns : goal.returns

@@ -1,5 +1,4 @@
 -- `words::count_in` meets its contract.
-use borrow.Author.Tests.{not-true, not-false}
 use Rattle.words.proofs.Reading.{count_more, count_unknown, count_known}
 use Rattle.words.proofs.count_in.Goals as goal
 
@@ -9,9 +8,9 @@ returns-then-words-gt-MOST_ENTRIES c = count_more _ c.if-words-gt-MOST_ENTRIES.t
 pub returns-then-not-lines_known : goal.returns-then-not-lines_known
 returns-then-not-lines_known c =
     count_unknown _ _ _ c.if-words-gt-MOST_ENTRIES.false c.requires.1.0 c.lines_known.ensures
-    (not-true _ c.if-not-lines_known.true)
+    c.if-not-lines_known.true
 
 pub returns : goal.returns
 returns c =
     count_known _ _ _ c.if-words-gt-MOST_ENTRIES.false c.requires.1.0 c.lines_known.ensures
-    (not-false _ c.if-not-lines_known.false)
+    c.if-not-lines_known.false

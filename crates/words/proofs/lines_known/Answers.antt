@@ -1,5 +1,4 @@
 use Rattle.std.proofs.Common.{◌-◌, sym, ◌∙◌, true, rules}
-use borrow.Author.Tests.{not-true, not-false}
 use Rattle.rack.specs.laws.Tests.{all_none, all_next, all_fail}
 use Rattle.layout.specs.Reading.{line_known}
 use Rattle.words.proofs.Reading.{all_end}
@@ -12,7 +11,7 @@ pub returns-then-not-entry_known : goal.returns-then-not-entry_known
 unfolding line_known
 returns-then-not-entry_known c =
     sym (all_fail _ c.loop-i.i _ c.loop-i-test.true
-    (sym c.entry_known.ensures ∙ not-true _ c.if-not-entry_known.true))
+    (sym c.entry_known.ensures ∙ c.if-not-entry_known.true))
 
 pub loop-i-preserved : goal.loop-i-preserved
 unfolding line_known
@@ -20,7 +19,7 @@ loop-i-preserved c =
     (
   search rules,
   all_next c.loop-i.i _ c.loop-i.invariant.1
-      (sym c.entry_known.ensures ∙ not-false _ c.if-not-entry_known.false),
+      (sym c.entry_known.ensures ∙ c.if-not-entry_known.false),
 )
 
 pub returns : goal.returns
