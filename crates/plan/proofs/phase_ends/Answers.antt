@@ -1,6 +1,5 @@
 -- `plan::phase_ends` meets its contract.
-use Rattle.std.proofs.Common.{eq-eqb, ne_eqb, to_z-of_z, w32}
-use borrow.Author.Rules.{sfits_of}
+use Rattle.std.proofs.Common.{rules, eq-eqb, ne_eqb, to_z-of_z, w32, SFits}
 use Rattle.method.specs.laws.InTurn.{phase_ends}
 use Rattle.plan.proofs.phase_ends.Goals as goal
 
@@ -15,11 +14,11 @@ returns-in-Read c = rw (c.keeps.ensures, c.in-Read.is)
 pub returns-else-s : goal.returns-else-s
 unfolding phase_ends
 returns-else-s c =
-    let f = c.known_told-1.given.0.1 in
+    let f : SFits w32 c.in-Write.v = search rules in
     rw (
       c.keeps-in-Write.ensures,
       c.written.ensures,
-      to_z-of_z {w = w32} (sfits_of f),
+      to_z-of_z {w = w32} f,
       c.in-Write.is,
       ne_eqb _ _ c.if-s.false,
     )

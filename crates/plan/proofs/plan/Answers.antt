@@ -1,6 +1,5 @@
 -- `plan::plan` meets its contract.
-use Rattle.std.proofs.Common.{◌≡◌, ◌∙◌, to_z-of_z, w32}
-use borrow.Author.Rules.{sfits_of}
+use Rattle.std.proofs.Common.{rules, ◌≡◌, ◌∙◌, to_z-of_z, w32, SFits}
 use Rattle.method.specs.declared.Decision.{Decision}
 use Rattle.method.specs.declared.Event.{Event}
 use Rattle.method.specs.declared.InSlot.{InSlot}
@@ -19,7 +18,9 @@ returns-in-StartRead c = by_turn _ _ _ (rw (c.start.ensures, c.in-StartRead.is))
 
 pub returns-in-StartWrite : goal.returns-in-StartWrite
 unfolding turn_of
-returns-in-StartWrite c = let f = c.known_told-in-StartWrite-1.given.1.1.0.1 in by_turn _ _ _ (rw (c.start-in-StartWrite.ensures, to_z-of_z {w = w32} (sfits_of f), c.in-StartWrite.is))
+returns-in-StartWrite c =
+    let f : SFits w32 c.in-StartWrite.v = search rules in
+    by_turn _ _ _ (rw (c.start-in-StartWrite.ensures, to_z-of_z {w = w32} f, c.in-StartWrite.is))
 
 pub returns-in-Deliver : goal.returns-in-Deliver
 unfolding turn_of

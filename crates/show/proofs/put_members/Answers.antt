@@ -15,6 +15,10 @@ pub loop-k-preserved : goal.loop-k-preserved
 unfolding set_bits
 loop-k-preserved c = (search rules, each_next _ _ c.loop-k.invariant.1 c.put_member-next.ensures)
 
+pub loop-k-smaller : goal.loop-k-smaller
+unfolding set_bits
+loop-k-smaller c = search rules
+
 pub shape_of-out : goal.shape_of-out
 shape_of-out c = printed_length c.loop-k.invariant.1
 
