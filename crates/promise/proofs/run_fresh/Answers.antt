@@ -3,4 +3,7 @@ use Rattle.promise.specs.laws.Promise.{promise}
 use Rattle.promise.proofs.run_fresh.Goals as goal
 
 pub returns : goal.returns
-returns c = (rw (c.run.ensures, c.made-made.ensures), rw (c.run.ensures, c.made-made.ensures) (promise _ _ _ _ _))
+returns c = record {
+  value = rw (c.run.ensures, c.made-made.ensures);
+  lawful = rw (c.run.ensures, c.made-made.ensures) (promise _ _ _ _ _);
+}
