@@ -1,11 +1,8 @@
 // Standard input: reading it into lent bytes, how that came to its end, and what is left of the input when the program has what it takes.
 #![tactic(auto)]
 
-ghost use Rattle.std.specs.Prelude.{◌≤◌, length};
 ghost use Rattle.std.specs.Counts.{IsPrefixLen};
-ghost use Rattle.std.specs.Io.{ReadsAtMost};
 
-use std::io;
 use std::io::Read;
 
 // How a reading came to its end: the lent bytes are full, a read gave no byte, or a read failed.
