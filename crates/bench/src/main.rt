@@ -1,46 +1,46 @@
 // The bench sheet's lines that have no star: run on the product's own calls, a line each in the paper's words, and compared with the file `stdout`.
 #![tactic(auto)]
+
 ghost use Rattle.std.specs.Prelude.{◌≤◌};
 
-use libc::STDOUT_FILENO;
 use method::InSlot;
 use number::Number;
 use rack::{Rack, Ran};
 use record::{Cell, Client, Replica};
 
-fn say(words: &[u8]) {
-    io::write_all(STDOUT_FILENO, words);
+fn say(out: &impl Print, words: &[u8]) {
+    let _ = out.write_all(words);
 }
 
-fn say_number(n: u64) {
-    io::print_decimal(STDOUT_FILENO, n);
+fn say_number(out: &impl Print, n: u64) {
+    let _ = out.print(n);
 }
 
 // The end of a line: the refusal, or what is said where there is none.
-fn end(refusal: u8, done: &[u8]) {
+fn end(out: &impl Print, refusal: u8, done: &[u8]) {
     if refusal == 0 {
-        say(done);
+        say(out, done);
     } else {
-        say(b"refused ");
-        say_number(refusal as u64);
+        say(out, b"refused ");
+        say_number(out, refusal as u64);
     }
-    say(b"\n");
+    say(out, b"\n");
 }
 
 // Reads a number from bytes.
-fn read(words: &[u8], bytes: &[u8]) {
-    say(words);
+fn read(out: &impl Print, words: &[u8], bytes: &[u8]) {
+    say(out, words);
     match number::read_number(bytes, 0) {
-        Number::Is(_, _) => end(0, b"a number"),
-        Number::Refused(k) => end(k, b""),
+        Number::Is(_, _) => end(out, 0, b"a number"),
+        Number::Refused(k) => end(out, k, b""),
     }
 }
 
 // Makes a rack of these sizes.
-fn make(words: &[u8], replicas: u32, clients: u32, cells: u32) {
-    say(words);
+fn make(out: &impl Print, words: &[u8], replicas: u32, clients: u32, cells: u32) {
+    say(out, words);
     let made = Rack::made(replicas, clients, cells);
-    end(made.refusal, b"made");
+    end(out, made.refusal, b"made");
 }
 
 // How many messages a slot holds.
@@ -94,25 +94,29 @@ fn fill() -> Ran {
 }
 
 // What a full wire allows.
-fn full() {
+fn full(out: &impl Print) {
     let filled = fill();
     let rack = filled.rack;
-    say(b"With all ");
-    say_number(used(rack));
-    say(b" slots used copy is ");
-    end(filled.refusal, b"done");
+    say(out, b"With all ");
+    say_number(out, used(rack));
+    say(out, b" slots used copy is ");
+    end(out, filled.refusal, b"done");
     let delivered = schedule::step(rack, 2, 0, 0, 0);
-    say(b"With all ");
-    say_number(used(rack));
-    say(b" slots used delivery of an ask to a replica that is on is ");
-    end(delivered.refusal, b"done");
+    say(out, b"With all ");
+    say_number(out, used(rack));
+    say(
+        out,
+        b" slots used delivery of an ask to a replica that is on is ",
+    );
+    end(out, delivered.refusal, b"done");
 }
 
-fn main() {
-    read(b"80 00 is ", &[0x80, 0x00]);
-    read(b"80 alone is ", &[0x80]);
-    read(b"FF FF FF FF 10 is ", &[0xFF, 0xFF, 0xFF, 0xFF, 0x10]);
-    make(b"Sizes 15, 8, 16 are ", REPLICAS, CLIENTS, CELLS);
-    make(b"Sizes 16, 8, 16 are ", TOO_MANY, CLIENTS, CELLS);
-    full();
+fn main(rt: HostRuntime) {
+    let out = &rt;
+    read(out, b"80 00 is ", &[0x80, 0x00]);
+    read(out, b"80 alone is ", &[0x80]);
+    read(out, b"FF FF FF FF 10 is ", &[0xFF, 0xFF, 0xFF, 0xFF, 0x10]);
+    make(out, b"Sizes 15, 8, 16 are ", REPLICAS, CLIENTS, CELLS);
+    make(out, b"Sizes 16, 8, 16 are ", TOO_MANY, CLIENTS, CELLS);
+    full(out);
 }

@@ -1,36 +1,37 @@
 // The drill: reads a script from standard input, runs it on the rack that it names, and writes what the run did and left.
 #![tactic(auto)]
+
 use input::Ending;
-use libc::STDOUT_FILENO;
 
 // The longest script that is taken has one byte less.
 const TOO_LONG: usize = play::LONGEST + 1;
 
 // Writes what there is to say of a script.
-fn say(script: &[u8]) {
+fn say(rt: &impl Print, script: &[u8]) {
     let mut lines = [0u8; 262144];
     let n = play::drill(script, &mut lines);
-    io::write_all(STDOUT_FILENO, &lines[..n]);
+    let _ = rt.write_all(&lines[..n]);
 }
 
 // Reads a script into the lent bytes. One that fills them is too long; a part of one is not run.
-fn answer(bytes: &mut [u8]) {
-    let reading = input::fill(bytes);
+fn answer(rt: HostRuntime, bytes: &mut [u8]) {
+    let mut stdin = rt.stdin();
+    let reading = input::fill(&mut stdin, bytes);
     let n = reading.count;
     let ending = reading.ending;
     match ending {
         Ending::Failed => {
-            io::write_all(STDOUT_FILENO, b"input can't be read to its end\n");
+            let _ = rt.write_all(b"input can't be read to its end\n");
         }
-        Ending::Ended => say(&bytes[..n]),
+        Ending::Ended => say(&rt, &bytes[..n]),
         Ending::Full => {
-            io::write_all(STDOUT_FILENO, b"script longer than 2097152 bytes\n");
-            input::drop_rest();
+            let _ = rt.write_all(b"script longer than 2097152 bytes\n");
+            input::drop_rest(&mut stdin);
         }
     }
 }
 
-fn main() {
+fn main(rt: HostRuntime) {
     let mut bytes = [0u8; TOO_LONG];
-    answer(&mut bytes);
+    answer(rt, &mut bytes);
 }

@@ -1,9 +1,9 @@
 // The pace of single events: reads how many from standard input, a seven-bit number, does as many by `schedule::step`, each a call of its own on a rack of
 // 5 replicas, and writes how many were done. `compare/bench/run racks` times it.
 #![tactic(auto)]
+
 ghost use Rattle.std.specs.Prelude.{◌≤◌};
 
-use libc::{STDIN_FILENO, STDOUT_FILENO};
 use number::Number;
 use rack::Rack;
 
@@ -34,18 +34,18 @@ fn done_of(times: u32) -> u64 {
     done
 }
 
-fn main() {
+fn main(rt: HostRuntime) {
     let mut bytes = [0u8; 5];
-    let n = io::read_full(STDIN_FILENO, &mut bytes);
+    let n = input::fill(&mut rt.stdin(), &mut bytes).count;
     match number::read_number(&bytes[..n], 0) {
         Number::Is(times, _) => {
-            io::print_decimal(STDOUT_FILENO, done_of(times));
-            io::write_all(STDOUT_FILENO, b" events done\n");
+            let _ = rt.print(done_of(times));
+            let _ = rt.write_all(b" events done\n");
         }
         Number::Refused(k) => {
-            io::write_all(STDOUT_FILENO, b"refused ");
-            io::print_decimal(STDOUT_FILENO, k as u64);
-            io::write_all(STDOUT_FILENO, b"\n");
+            let _ = rt.write_all(b"refused ");
+            let _ = rt.print(k);
+            let _ = rt.write_all(b"\n");
         }
     }
 }

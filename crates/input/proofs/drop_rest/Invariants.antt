@@ -1,8 +1,5 @@
--- `input::drop_rest` is safe and ends. Nothing has to hold from turn to turn; the measure is the number of turns that are left. Assumes nothing.
+-- `input::drop_rest` is safe and ends: the measure is the number of turns that are left. Assumes nothing.
 use Rattle.input.proofs.drop_rest.Given as goal
 
-abbrev pub invariant-loop-turns : goal.invariant-loop-turns
-invariant-loop-turns l = Unit {0}
-
 abbrev pub decreases-loop-turns : goal.decreases-loop-turns
-decreases-loop-turns l = l.turns
+decreases-loop-turns g l = l.turns

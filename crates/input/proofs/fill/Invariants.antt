@@ -3,7 +3,7 @@ use Rattle.std.proofs.Common.{◌-◌, ◌≤◌, ◌≡◌, length}
 use Rattle.input.proofs.fill.Given as goal
 
 abbrev pub invariant-loop-count : goal.invariant-loop-count
-invariant-loop-count l = (l.count ≤ l.room) × (length l.bytes ≡ length l.initial.bytes)
+invariant-loop-count g l = (l.count ≤ l.room) × (length l.bytes ≡ length l.initial.bytes)
 
 abbrev pub decreases-loop-count : goal.decreases-loop-count
-decreases-loop-count l = l.room - l.count
+decreases-loop-count g l = l.room - l.count
