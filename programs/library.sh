@@ -96,26 +96,32 @@ find_rt() {
 
 need_file() { [ -f "$1" ] && [ -r "$1" ] || give_up "the Rattle kit has no file $1"; }
 
-# Sets what runs a program: `loader`, `libraries`, and `emulator` where the processor isn't x86-64; and `kit` and `machine`.
+# Sets where the kit's files are: `kit`, `tools`, `libraries`, `loader`; and `machine`.
 find_kit() {
     find_rt
     guide=$("$rt" doc 2>/dev/null </dev/null) || give_up "$rt doesn't work: see what 'rt doc' says"
     case $guide in
-    /*/docs/START-HERE.md) kit=${guide%/docs/START-HERE.md} ;;
+    /*/START-HERE.md) kit=${guide%/START-HERE.md} ;;
     *) give_up "the Rattle kit isn't found: 'rt doc' says '$guide', which is no whole path of its guide" ;;
     esac
     machine=$(uname -m)
-    libraries=$kit/on/$machine/toolchain/lib
+    tools=$kit/toolchain/bin
+    libraries=$kit/toolchain/lib
     loader=$libraries/ld-linux-x86-64.so.2
-    emulator=''
-    [ "$machine" = x86_64 ] || emulator=$kit/on/$machine/toolchain/bin/qemu-x86_64
     need_file "$kit/KIT-ID"
     need_file "$loader"
     need_file "$libraries/libc.so.6"
-    [ -z "$emulator" ] || need_file "$emulator"
 }
 
-# Runs a proved program. It is for x86-64 and runs with the kit's loader and C library; on another processor the kit's emulator runs it. Of the
+# Sets `emulator`, what runs a program where the processor isn't x86-64: the kit has none.
+find_emulator() {
+    emulator=''
+    [ "$machine" != x86_64 ] || return 0
+    need_tools qemu-x86_64
+    emulator=$(command -v qemu-x86_64)
+}
+
+# Runs a proved program. It is for x86-64 and runs with the kit's loader and C library; on another processor qemu-x86_64 runs it, of the PATH. Of the
 # environment nothing reaches it, so that no LD_PRELOAD writes in its place; but the emulator's stack can be set, to try a small one.
 run_proved() { # FILE
     env -i ${QEMU_STACK_SIZE:+"QEMU_STACK_SIZE=$QEMU_STACK_SIZE"} ${emulator:+"$emulator"} "$loader" --library-path "$libraries" "$1"
@@ -127,7 +133,7 @@ run_proved() { # FILE
 crates_of() { # NAME
     NAME=$1 awk '
         { sub(/#.*/, "") }
-        index($0, ":") { name = substr($0, 1, index($0, ":") - 1); gsub(/[ \t]/, "", name); below[name] = substr($0, index($0, ":") + 1) }
+        NF { name = $1; sub(/:.*/, "", name); below[name] = (index($0, ":") ? substr($0, index($0, ":") + 1) : "") }
         function visit(name,    many, each, k) {
             if (!(name in below) || (name in seen)) return
             seen[name] = 1
@@ -141,16 +147,27 @@ crates_of() { # NAME
 # Prints one sum of all that a program is made of: the kit, crates.txt, and each file of its crates that a check reads.
 sum_sources() { # NAME
     crates=$(crates_of "$1") || return
+    parts=''
+    for crate in $crates; do
+        parts="$parts $crate/src"
+        for part in specs proofs; do [ ! -d "$here/crates/$crate/$part" ] || parts="$parts $crate/$part"; done
+    done
     # shellcheck disable=SC2086
-    sums=$(cd "$here/crates" && find -L $crates -type f \( -path '*/src/*' -o -path '*/specs/*' -o -path '*/proofs/*' \) -exec sha256sum {} +) || return
+    sums=$(cd "$here/crates" && find -L $parts -type f -exec sha256sum {} +) || return
     { cat "$kit/KIT-ID" "$here/crates.txt" && echo "$machine" && printf '%s\n' "$sums" | sort; } | sha256sum | cut -d' ' -f1
+}
+
+# Prints where rt leaves a program that it built.
+program_of() { # NAME
+    echo "$here/crates/$1/out/$1"
 }
 
 # Copies the program to the room, where nobody replaces it between the look at it and its run, and says what the copy is: by its sum. A copy that
 # finds no room says nothing against the program, which would be deleted and built anew.
 take() { # NAME
-    [ -f "$here/target/bin/$1" ] && [ -r "$here/target/bin/$1" ] || return
-    cp -- "$here/target/bin/$1" "$room/$1" 2>/dev/null || give_up "there is no room in $TMPDIR"
+    made=$(program_of "$1")
+    [ -f "$made" ] && [ -r "$made" ] || return
+    cp -- "$made" "$room/$1" 2>/dev/null || give_up "there is no room in $TMPDIR"
     taken=$(sha256sum <"$room/$1") && taken=${taken%% *}
 }
 
@@ -159,27 +176,25 @@ take_built() { # NAME SOURCES
     take "$1" && [ "$(cat "$here/target/built/$1" 2>/dev/null)" = "$2 $taken" ]
 }
 
-# To `rt check` a crate with a stamp is unchanged, even where what it made is gone. So the stamps of what is gone go too, and the program's own.
+# A program that `rt run` finds built is run as it is. So it goes, with the stamp that says so.
 forget() { # NAME
-    rm -f "$here/target/built/$1" "$here/target/bin/$1" "$here/target/stamp/$1" || return
-    for crate in $(crates_of "$1"); do
-        [ -e "$here/target/rlib/$crate.rlib" ] || rm -f "$here/target/stamp/$crate" || return
-    done
+    rm -f "$here/target/built/$1" "$(program_of "$1")" "$(program_of "$1").stamp"
 }
 
-# Proves and builds a program. Where that fails nothing is left that a later call would run.
+# Proves and builds a program. `rt run` does so, and runs it then: here on no input, where each of ours ends at once. Where that fails nothing is left that
+# a later call would run.
 prove() { # NAME SOURCES
     log=$here/target/built/$1.log
     last=$(cat "$here/target/built/$1.seconds" 2>/dev/null) && last="took $last s the last time" || last="takes some minutes"
     say "the program isn't built from these sources yet: it is proved and built first, which $last"
-    forget "$1" || give_up "$here/target can't be written"
+    forget "$1" || give_up "$here/crates/$1/out can't be written"
     began=$(date +%s)
-    if ! (cd "$here" && "$rt" check "$1") >"$log" 2>&1 </dev/null; then
-        rm -f "$here/target/bin/$1" "$here/target/stamp/$1"
+    if ! (cd "$here/crates/$1" && "$rt" run) >"$log" 2>&1 </dev/null; then
+        forget "$1"
         give_up "the check failed, so nothing is run; what it said is in $log"
     fi
     [ "$(sum_sources "$1")" = "$2" ] || give_up "the sources were changed while the program was built, so nothing is run; start it again"
-    take "$1" || give_up "the check passed, but $here/target/bin/$1 can't be read"
+    take "$1" || give_up "the check passed, but $(program_of "$1") can't be read"
     echo "$(($(date +%s) - began))" >"$here/target/built/$1.seconds"
     echo "$2 $taken" >"$here/target/built/$1.new" && mv -f "$here/target/built/$1.new" "$here/target/built/$1" || give_up "$here/target/built/$1 can't be written"
 }
@@ -400,6 +415,7 @@ command_of() { # WAY MOST-INPUTS NAME-OF-PROGRAM WORDS...
     [ $# -le "$most" ] || give_up "more than $most input; '$program --help' says what there is"
     make_room
     find_kit
+    find_emulator
     make_ready "$binary"
     answer_each "$way" "$@"
 }

@@ -64,7 +64,7 @@ fn quickest(schedule: &Schedule, events: usize, by_themselves: bool) -> (f64, f6
 }
 
 /// The program of crate pace does as many events as it is told, each by `schedule::step`.
-const PACE: &str = "../../target/bin/pace";
+const PACE: &str = "../../crates/pace/out/pace";
 /// Its standard input: 0 and 131,072 as seven-bit numbers.
 const NO_EVENTS: &[u8] = &[0x00];
 const MANY_EVENTS: &[u8] = &[0x80, 0x80, 0x08];

@@ -1,5 +1,7 @@
-// The calls for C and Rust: include/adzequarry.h has their declarations. An enum can't cross to C, so an answer is packed into one number.
+// The calls for C and Rust, as crate exports_c exports them: include/adzequarry.h has their declarations. An enum can't cross to C, so an answer is packed into
+// one number.
 #![tactic(auto)]
+
 ghost use Rattle.std.specs.Prelude.{◌≡◌};
 ghost use Rattle.number.specs.Number.{number_bytes, number_at, put_answer, put_bytes};
 ghost use Rattle.number.specs.Value.{alternating_of, signed_of};
@@ -13,8 +15,7 @@ use record::Answer;
 use verdict::Verdict;
 
 // The number at a place, with how many bytes it takes.
-#[unsafe(no_mangle)]
-pub extern "C" fn adze_read_number(bytes: &[u8], at: usize) -> u64
+pub fn adze_read_number(bytes: &[u8], at: usize) -> u64
     ensures { result ≡ packed_number at (number_at bytes.now at) }
 {
     match number::read_number(bytes, at) {
@@ -24,8 +25,7 @@ pub extern "C" fn adze_read_number(bytes: &[u8], at: usize) -> u64
 }
 
 // Writes a number at a place.
-#[unsafe(no_mangle)]
-pub extern "C" fn adze_write_number(bytes: &mut [u8], at: usize, n: u32) -> u64
+pub fn adze_write_number(bytes: &mut [u8], at: usize, n: u32) -> u64
     ensures { (result ≡ packed_put at (put_answer bytes.old at (number_bytes n))) × (bytes.new ≡ put_bytes bytes.old at (number_bytes n)) }
 {
     match number::write_number(bytes, at, n) {
@@ -35,16 +35,14 @@ pub extern "C" fn adze_write_number(bytes: &mut [u8], at: usize, n: u32) -> u64
 }
 
 // The number that a value is written as.
-#[unsafe(no_mangle)]
-pub extern "C" fn adze_alternating(v: i32) -> u32
+pub fn adze_alternating(v: i32) -> u32
     ensures { result ≡ alternating_of v }
 {
     number::alternating(v)
 }
 
 // The value that a number stands for.
-#[unsafe(no_mangle)]
-pub extern "C" fn adze_signed(n: u32) -> i32
+pub fn adze_signed(n: u32) -> i32
     ensures { result ≡ signed_of n }
 {
     number::signed(n)
@@ -62,8 +60,7 @@ fn packed(a: Answer) -> u64
 }
 
 // Reads a record into lent rows.
-#[unsafe(no_mangle)]
-pub extern "C" fn adze_read_record(bytes: &[u8], rows: &mut [u32]) -> u64
+pub fn adze_read_record(bytes: &[u8], rows: &mut [u32]) -> u64
     ensures { (result ≡ packed_answer (read_outcome bytes.now rows.old).answer) ×
         (rows.new ≡ (read_outcome bytes.now rows.old).lent) }
 {
@@ -72,8 +69,7 @@ pub extern "C" fn adze_read_record(bytes: &[u8], rows: &mut [u32]) -> u64
 }
 
 // Writes the record of lent rows into lent bytes.
-#[unsafe(no_mangle)]
-pub extern "C" fn adze_write_record(rows: &[u32], bytes: &mut [u8]) -> u64
+pub fn adze_write_record(rows: &[u32], bytes: &mut [u8]) -> u64
     ensures { (result ≡ packed_answer (write_outcome rows.now bytes.old).answer) ×
         (bytes.new ≡ (write_outcome rows.now bytes.old).lent) }
 {
@@ -94,8 +90,7 @@ fn packed_verdict(v: Verdict) -> u64
 }
 
 // The judge's verdict on a record's bytes.
-#[unsafe(no_mangle)]
-pub extern "C" fn adze_verdict(bytes: &[u8]) -> u64
+pub fn adze_verdict(bytes: &[u8]) -> u64
     ensures { Judged bytes.now result }
 {
     let v = verdict::judge(bytes);
@@ -111,8 +106,7 @@ fn packed_run(a: layout::WordsAnswer) -> u64
 }
 
 // Makes a fresh rack in lent words.
-#[unsafe(no_mangle)]
-pub extern "C" fn adze_rack_made(rack: &mut [u32], replicas: u32, clients: u32, cells: u32) -> u64
+pub fn adze_rack_made(rack: &mut [u32], replicas: u32, clients: u32, cells: u32) -> u64
     ensures { (result ≡ packed_run (made_outcome replicas clients cells rack.old).answer) ×
         (rack.new ≡ (made_outcome replicas clients cells rack.old).lent) }
 {
@@ -121,8 +115,7 @@ pub extern "C" fn adze_rack_made(rack: &mut [u32], replicas: u32, clients: u32, 
 }
 
 // Runs a schedule on the rack of lent words. An allowance of 32 bits, so that the number of events done fits the answer.
-#[unsafe(no_mangle)]
-pub extern "C" fn adze_rack_run(rack: &mut [u32], allowance: u32, events: &[u32]) -> u64
+pub fn adze_rack_run(rack: &mut [u32], allowance: u32, events: &[u32]) -> u64
     ensures { (result ≡ packed_run (run_outcome rack.old allowance events.now).answer) ×
         (rack.new ≡ (run_outcome rack.old allowance events.now).lent) }
 {

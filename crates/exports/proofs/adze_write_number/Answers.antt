@@ -12,8 +12,7 @@ overflow_mul-result c = let h = put_fits_bits _ _ _ _ (sym c.write_number.ensure
 
 pub returns-in-Next : goal.returns-in-Next
 unfolding packed_put
-returns-in-Next c =
-    (
+returns-in-Next c = (
   sym (ap (packed_put c.args.at)
       (sym c.write_number.ensures.answer ∙ c.in-Next.is)),
   c.write_number.ensures.bytes,
@@ -21,8 +20,7 @@ returns-in-Next c =
 
 pub returns-in-NoRoom : goal.returns-in-NoRoom
 unfolding packed_put
-returns-in-NoRoom c =
-    (
+returns-in-NoRoom c = (
   sym (ap (packed_put c.args.at) (sym c.write_number.ensures.answer
       ∙ c.in-NoRoom.is)),
   c.write_number.ensures.bytes,
