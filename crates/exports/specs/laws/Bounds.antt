@@ -5,7 +5,7 @@ use Rattle.std.proofs.Common.{ap, sym, ◌∙◌, ⊎_elim, arith}
 use Rattle.std.proofs.Math.Decide.{dec_le}
 use Rattle.number.specs.Number.{number_bytes, number_at, put_answer}
 use Rattle.number.specs.laws.NumberLaws.{length_some, length_few, refusal_bounds, put_fits, put_refused}
-use Rattle.number.specs.laws.Trip.{written_read}
+use Rattle.number.proofs.theorems.Trip.{written_read}
 use Rattle.number.specs.declared.Number.{Number}
 use Rattle.number.specs.declared.Number.TheVariants.{Is, Refused}
 use Rattle.number.specs.declared.Put.{Put}

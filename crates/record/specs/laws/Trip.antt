@@ -5,7 +5,7 @@ use Rattle.std.specs.Prelude.{◌≡◌, refl, Bool, true, false, drop, ltb}
 use Rattle.std.proofs.Math.Path.{ap}
 use Rattle.std.proofs.Common.{◌∙◌, sym, arith, length-append, length-drop, drop_of_length-le, lt-ltb, le-ltb, ltb-false}
 use Rattle.std.proofs.Math.ListN.{length}
-use Rattle.number.specs.laws.Trip.{drop_past}
+use Rattle.number.proofs.theorems.Trip.{drop_past}
 use Rattle.record.specs.declared.Entry.{Entry}
 use Rattle.record.specs.declared.Found.{Found}
 use Rattle.record.specs.declared.Found.TheVariants.{At}
