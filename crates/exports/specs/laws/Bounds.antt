@@ -13,8 +13,8 @@ use Rattle.number.specs.declared.Put.TheVariants.{Next, NoRoom}
 use Rattle.record.specs.Record.{Held, entries, fault, bytes_held}
 use Rattle.number.specs.Below.{Bytes, Words}
 use Rattle.record.specs.Named.{Named}
-use Rattle.record.specs.laws.Trip.{reading_legal, record_few}
-use Rattle.record.specs.laws.Refusals.{record_faults}
+use Rattle.record.proofs.theorems.Trip.{reading_legal, record_few}
+use Rattle.record.proofs.theorems.Refusals.{record_faults}
 use Rattle.record.specs.declared.Entry.{Entry}
 use Rattle.record.specs.declared.Answer.{Answer}
 use Rattle.record.specs.declared.Answer.TheVariants.{All, Refused as Unread}

@@ -15,7 +15,7 @@ use Rattle.record.specs.Record.{longest_record, entry_limit, fresh, standing_aft
 use Rattle.record.specs.Legal.{InRange, Follows, Legal}
 use Rattle.number.specs.Below.{byte_limit, Below, Bytes}
 use Rattle.record.specs.laws.Steps.{ends, onward, first, empty}
-use Rattle.record.specs.laws.EntryTrip.{reads_entry, written_entry, entry_some, entry_few, below_none, below_append, entry_bytes_lem}
+use Rattle.record.proofs.theorems.EntryTrip.{reads_entry, written_entry, entry_some, entry_few, below_none, below_append, entry_bytes_lem}
 
 -- ---- what is held has no fault
 
