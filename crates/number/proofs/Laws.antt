@@ -10,7 +10,7 @@ use borrow.Author.Tests.{lt-ltb, le-ltb}
 use Rattle.number.specs.Below.{byte_limit}
 use Rattle.number.specs.Number.{group_size, fifth_most, groups_of, number_bytes}
 use Rattle.number.specs.laws.Steps.{read_go, push}
-use Rattle.number.specs.laws.Trip.{read_below}
+use Rattle.number.proofs.theorems.Trip.{read_below}
 use Rattle.number.specs.laws.NumberLaws.{top, groups_small, groups_more, groups_some}
 use Rattle.number.specs.declared.Number.{Number}
 use Rattle.number.specs.declared.Number.TheVariants.{Is, Refused}

@@ -1,8 +1,6 @@
 -- Laws: what is proved, and the definitions that only proofs need.
 pub mod WroteLaws
 pub mod Steps
-pub mod Trip
 pub mod NumberLaws
 pub mod ValueLaws
 pub mod Sheet
-pub mod OnlyOne

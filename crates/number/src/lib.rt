@@ -1,5 +1,6 @@
 // Unsigned numbers in groups of seven bits, and signed values as alternating unsigned numbers.
 #![tactic(auto)]
+
 ghost use Rattle.std.specs.Prelude.{◌≡◌, ◌+◌, ◌≤◌, length, drop};
 ghost use Rattle.number.specs.Number.{number_bytes, number_at, Placed};
 ghost use Rattle.number.specs.laws.Steps.{read_go};

@@ -3,8 +3,3 @@ pub mod FloatingPins
 pub mod Place
 pub mod Growth
 pub mod Frame
-pub mod Pairs
-pub mod Steps
-pub mod Stays
-pub mod Atomic
-pub mod Example

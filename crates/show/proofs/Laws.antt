@@ -18,7 +18,7 @@ use Rattle.number.specs.declared.Put.{Put}
 use Rattle.number.specs.declared.Put.TheVariants.{Next, NoRoom}
 use Rattle.record.specs.declared.Entry.{Entry}
 use Rattle.record.specs.Entry.{entry_bytes}
-use Rattle.record.specs.laws.EntryTrip.{entry_most}
+use Rattle.record.proofs.theorems.EntryTrip.{entry_most}
 use Rattle.record.specs.Record.{entry_limit, all_of, bytes_of}
 use Rattle.rack.specs.declared.Line.{Line}
 use Rattle.lines.specs.Lines.{each_below}

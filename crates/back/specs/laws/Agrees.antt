@@ -12,7 +12,7 @@ use Rattle.record.specs.Legal.{InRange, Follows, Legal}
 use Rattle.number.specs.Below.{Words}
 use Rattle.law.specs.Standing.{has, standing_from, standing}
 use Rattle.law.specs.laws.Steps.{put}
-use Rattle.law.specs.laws.Operations.{standing_append, fresh_none, tied, has_same, has_other}
+use Rattle.law.proofs.theorems.Operations.{standing_append, fresh_none, tied, has_same, has_other}
 use Rattle.method.specs.declared.Message.{Message}
 use Rattle.rack.specs.declared.Slot.{Slot}
 use Rattle.method.specs.declared.Party.{Party}

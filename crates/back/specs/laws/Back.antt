@@ -9,7 +9,7 @@ use Rattle.rows.specs.Rows.{Outcome, rows_of, write_outcome, Leaves}
 use Rattle.record.specs.Legal.{Legal}
 use Rattle.number.specs.Below.{Words}
 use Rattle.rows.specs.laws.Storing.{stored_fits}
-use Rattle.record.specs.laws.Trip.{read_of_write, record_bytes, record_few}
+use Rattle.record.proofs.theorems.Trip.{read_of_write, record_bytes, record_few}
 use Rattle.rows.specs.laws.Trip.{reads_legal, writes_legal}
 use Rattle.rows.specs.laws.RowLaws.{rows_length}
 use Rattle.verdict.specs.Verdict.{repeats, distinct_from, distinct, taken_for}

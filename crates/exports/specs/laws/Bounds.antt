@@ -5,7 +5,7 @@ use Rattle.std.proofs.Common.{ap, sym, ◌∙◌, ⊎_elim, arith}
 use Rattle.std.proofs.Math.Decide.{dec_le}
 use Rattle.number.specs.Number.{number_bytes, number_at, put_answer}
 use Rattle.number.specs.laws.NumberLaws.{length_some, length_few, refusal_bounds, put_fits, put_refused}
-use Rattle.number.specs.laws.Trip.{written_read}
+use Rattle.number.proofs.theorems.Trip.{written_read}
 use Rattle.number.specs.declared.Number.{Number}
 use Rattle.number.specs.declared.Number.TheVariants.{Is, Refused}
 use Rattle.number.specs.declared.Put.{Put}
@@ -13,8 +13,8 @@ use Rattle.number.specs.declared.Put.TheVariants.{Next, NoRoom}
 use Rattle.record.specs.Record.{Held, entries, fault, bytes_held}
 use Rattle.number.specs.Below.{Bytes, Words}
 use Rattle.record.specs.Named.{Named}
-use Rattle.record.specs.laws.Trip.{reading_legal, record_few}
-use Rattle.record.specs.laws.Refusals.{record_faults}
+use Rattle.record.proofs.theorems.Trip.{reading_legal, record_few}
+use Rattle.record.proofs.theorems.Refusals.{record_faults}
 use Rattle.record.specs.declared.Entry.{Entry}
 use Rattle.record.specs.declared.Answer.{Answer}
 use Rattle.record.specs.declared.Answer.TheVariants.{All, Refused as Unread}

@@ -5,7 +5,7 @@ use Rattle.std.proofs.Math.Path.{refl}
 use Rattle.std.proofs.Math.Bool.{true, false, cond}
 use native.Mathlib.Omega.{arith}
 use Rattle.number.specs.Number.{number_at, and_then}
-use Rattle.number.specs.laws.Trip.{written_read}
+use Rattle.number.proofs.theorems.Trip.{written_read}
 use Rattle.number.specs.declared.Number.{Number}
 use Rattle.number.specs.declared.Number.TheVariants.{Is, Refused as NoNumber}
 use Rattle.number.specs.Below.{Bytes, Words as Below32}

@@ -5,7 +5,7 @@ use Rattle.text.specs.Text.{decimal, field, refused_word, line_feed, hex_text}
 use Rattle.text.specs.laws.Length.{Few, both, digits_few, value_few, hex_few}
 use Rattle.record.specs.Entry.{client_limit, cell_limit, entry_bytes}
 use Rattle.record.specs.Record.{entry_limit, all_of, bytes_of}
-use Rattle.record.specs.laws.EntryTrip.{entry_most}
+use Rattle.record.proofs.theorems.EntryTrip.{entry_most}
 use Rattle.quorum.specs.Sets.{set_bits, has_replica}
 use Rattle.stamps.specs.declared.Pair.{Pair}
 use Rattle.method.specs.declared.Body.{Body}

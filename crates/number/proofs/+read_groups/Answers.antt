@@ -30,13 +30,13 @@ overflow_cast-result-else-m-eq0 t c = omega (arith, c.type_inv.s c.args.at)
 pub overflow_mul-result : goal.overflow_mul-result
 overflow_mul-result t c =
     let below : c.in-Is.m < 2 ^ 25 = rest_below c.args.s.now (c.args.left - 1) (c.args.at + 1) c.in-Is.m c.in-Is.next (λ i. (c.type_inv.s i).fits) (omega arith)
-        (sym c.read_groups.ensures ∙ c.in-Is.is) in
+    (sym c.read_groups.ensures ∙ c.in-Is.is) in
     omega arith
 
 pub overflow_add-result-else-m-eq0 : goal.overflow_add-result-else-m-eq0
 overflow_add-result-else-m-eq0 t c =
     let below : c.in-Is.m < 2 ^ 25 = rest_below c.args.s.now (c.args.left - 1) (c.args.at + 1) c.in-Is.m c.in-Is.next (λ i. (c.type_inv.s i).fits) (omega arith)
-        (sym c.read_groups.ensures ∙ c.in-Is.is) in
+    (sym c.read_groups.ensures ∙ c.in-Is.is) in
     omega (arith, c.type_inv.s c.args.at)
 
 pub returns-in-Refused : goal.returns-in-Refused

@@ -21,7 +21,7 @@ use Rattle.record.specs.declared.Found.TheVariants.{At, Fault}
 use Rattle.record.specs.declared.Standing.{Standing}
 use Rattle.record.specs.Entry.{last_cell, last_client, longest_entry, up_to, fields_at, entry_at}
 use Rattle.record.specs.Record.{entry_limit, fresh, fault_after, standing_after, Held, entries, fault, before, enter, held_from, bytes_held}
-use Rattle.record.specs.laws.EntryTrip.{went, passed}
+use Rattle.record.proofs.theorems.EntryTrip.{went, passed}
 use Rattle.pairs.specs.Pairs.{deciding_bytes}
 
 -- ---- a number

@@ -15,11 +15,11 @@ use Rattle.record.specs.Legal.{InRange, Follows}
 use Rattle.record.specs.laws.Steps.{Counting, ends, onward, survey_tally, tally, counts_end, counts_full, counts_unread, counts_misplaced, counts_on}
 use Rattle.law.specs.Operation.{Op, note, notes, operations}
 use Rattle.law.specs.Standing.{standing_from, standing}
-use Rattle.law.specs.laws.Operations.{standing_append, operations_next, tied, fresh_none}
+use Rattle.law.proofs.theorems.Operations.{standing_append, operations_next, tied, fresh_none}
 use Rattle.pairs.specs.declared.Row.{Row}
 use Rattle.pairs.specs.Pairs.{Paired, PairsUp}
 use Rattle.pairs.specs.laws.Noting.{Long, Low, note_row, Noted}
-use Rattle.record.specs.laws.EntryTrip.{written_entry}
+use Rattle.record.proofs.theorems.EntryTrip.{written_entry}
 use Rattle.pairs.specs.laws.Next.{OpenAt, paired_next, open_next}
 
 -- ---- entries before what is held after them

@@ -8,10 +8,10 @@ use Rattle.law.specs.Operation.{Op as Operation, operations}
 use Rattle.law.specs.Order.{In, Pairs, Lawful}
 use Rattle.law.specs.Part.{of_cell}
 use Rattle.law.specs.laws.Lists.{of_cell_in, of_cell_of, of_cell_pairs, pairs_imp}
-use Rattle.law.specs.laws.Operations.{numbered, number_apart, stops_after}
-use Rattle.law.specs.laws.Locality.{locality}
+use Rattle.law.proofs.theorems.Operations.{numbered, number_apart, stops_after}
+use Rattle.law.proofs.theorems.Locality.{locality}
 use Rattle.law.specs.Tags.{Gives as LawGives, Tagged as LawTagged}
-use Rattle.law.specs.laws.TagTheorem.{tags_lawful}
+use Rattle.law.proofs.theorems.TagTheorem.{tags_lawful}
 use Rattle.protocol.specs.View.{Op}
 use Rattle.protocol.specs.Tagged.{chosen, tag, Gives, Tagged}
 use Rattle.promise.specs.Tie.{shown, Book}

@@ -6,8 +6,8 @@ use Rattle.protocol.specs.View.{Setting, Op, View}
 use Rattle.protocol.specs.Move.{Move, Legal, changed, after, Reached, then}
 use Rattle.protocol.specs.laws.Place.{put_one, put_here}
 use Rattle.protocol.specs.Later.{Later}
-use Rattle.protocol.specs.laws.Steps.{step}
-use Rattle.protocol.specs.laws.Atomic.{reached_keeps}
+use Rattle.protocol.proofs.theorems.Steps.{step}
+use Rattle.protocol.proofs.theorems.Atomic.{reached_keeps}
 use Rattle.promise.specs.Tie.{Means}
 use Rattle.promise.specs.laws.Wire.{means_stays}
 

@@ -8,7 +8,7 @@ use Rattle.rack.specs.declared.Made.{Made}
 use Rattle.rack.specs.Places.{of_sizes, record_of}
 use Rattle.rack.specs.Sound.{settings_fit, quorums_of}
 use Rattle.rack.specs.Run.{fresh_rack, made_of, run_of}
-use Rattle.protocol.specs.laws.Atomic.{atomic}
+use Rattle.protocol.proofs.theorems.Atomic.{atomic}
 use Rattle.promise.specs.Setting.{setting_of}
 use Rattle.promise.specs.laws.Lawful.{shown_lawful}
 use Rattle.promise.specs.Tie.{Tied}

@@ -21,8 +21,8 @@ use Rattle.rack.specs.laws.Decided.{Looked}
 use Rattle.rack.specs.Looking.{looked_held, looked_client, looked_party, looked_pair, sight}
 use Rattle.protocol.specs.View.{Setting, View}
 use Rattle.protocol.specs.Message.{Tell as Told}
-use Rattle.protocol.specs.laws.Stays.{tell_true}
-use Rattle.protocol.specs.laws.Atomic.{reached_keeps}
+use Rattle.protocol.proofs.theorems.Stays.{tell_true}
+use Rattle.protocol.proofs.theorems.Atomic.{reached_keeps}
 use Rattle.promise.specs.Setting.{setting_of}
 use Rattle.promise.specs.laws.SettingLaws.{only, nobody}
 use Rattle.promise.specs.Tie.{pair_of, open_phase, Stands, At, Means, op_of, Tie}

@@ -16,7 +16,7 @@ use Rattle.law.specs.Operation.{Op as Operation, note, operations}
 use Rattle.law.specs.Order.{In}
 use Rattle.law.specs.laws.Lists.{in_next}
 use Rattle.law.specs.laws.Steps.{ending, ending_keeps, ending_other, ending_over}
-use Rattle.law.specs.laws.Operations.{operations_next, numbered}
+use Rattle.law.proofs.theorems.Operations.{operations_next, numbered}
 use Rattle.stamps.specs.declared.Pair.{Pair}
 use Rattle.method.specs.declared.Goal.{Goal}
 use Rattle.method.specs.declared.Goal.TheVariants.{Read, Write}

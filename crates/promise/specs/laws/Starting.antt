@@ -8,7 +8,7 @@ use Rattle.record.specs.Record.{entry_limit}
 use Rattle.quorum.specs.Sets.{members_of, every_replica}
 use Rattle.law.specs.Operation.{note, operations}
 use Rattle.law.specs.Order.{In}
-use Rattle.law.specs.laws.Operations.{numbered}
+use Rattle.law.proofs.theorems.Operations.{numbered}
 use Rattle.method.specs.declared.Body.TheVariants.{Ask}
 use Rattle.method.specs.declared.Message.{Message}
 use Rattle.rack.specs.declared.Rack.{Rack}

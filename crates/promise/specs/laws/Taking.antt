@@ -22,9 +22,9 @@ use Rattle.protocol.specs.Message.{Keep as Chose}
 use Rattle.protocol.specs.Move.{Move, take, put, newer_of, stored, then}
 use Rattle.protocol.specs.Invariant.{Invariant}
 use Rattle.protocol.specs.laws.Place.{put_one}
-use Rattle.protocol.specs.laws.Steps.{step}
-use Rattle.protocol.specs.laws.Stays.{kept_true}
-use Rattle.protocol.specs.laws.Atomic.{reached_keeps}
+use Rattle.protocol.proofs.theorems.Steps.{step}
+use Rattle.protocol.proofs.theorems.Stays.{kept_true}
+use Rattle.protocol.proofs.theorems.Atomic.{reached_keeps}
 use Rattle.promise.specs.laws.SettingLaws.{fits_ranked, only}
 use Rattle.promise.specs.Setting.{setting_of}
 use Rattle.method.specs.Plan.{answered}

@@ -23,7 +23,7 @@ use Rattle.protocol.specs.Invariant.{Invariant}
 use Rattle.protocol.specs.laws.Place.{put_one, put_here}
 use Rattle.protocol.specs.Later.{Later}
 use Rattle.protocol.specs.laws.Growth.{same_cell}
-use Rattle.protocol.specs.laws.Stays.{tell_stays, keep_stays, kept_stays}
+use Rattle.protocol.proofs.theorems.Stays.{tell_stays, keep_stays, kept_stays}
 use Rattle.promise.specs.Tie.{pair_of, Means, Holding}
 
 -- ---- true messages stay true

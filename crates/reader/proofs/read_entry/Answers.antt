@@ -2,7 +2,7 @@
 use Rattle.std.proofs.Common.{sym, ◌∙◌, arith}
 use Rattle.record.specs.Entry.{last_client, entry_at}
 use Rattle.number.specs.Number.{and_then}
-use Rattle.record.specs.laws.EntryTrip.{passed}
+use Rattle.record.proofs.theorems.EntryTrip.{passed}
 use Rattle.reader.proofs.read_entry.Goals as goal
 
 pub overflow_cast-client : goal.overflow_cast-client

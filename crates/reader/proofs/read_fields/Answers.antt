@@ -2,7 +2,7 @@
 use Rattle.std.proofs.Common.{sym, ◌∙◌, arith, eq-eqb, ne_eqb}
 use Rattle.record.specs.Entry.{last_cell, fields_at}
 use Rattle.number.specs.Number.{and_then}
-use Rattle.record.specs.laws.EntryTrip.{passed}
+use Rattle.record.proofs.theorems.EntryTrip.{passed}
 use Rattle.number.specs.laws.ValueLaws.{signed_of_bits}
 use Rattle.reader.proofs.read_fields.Goals as goal
 

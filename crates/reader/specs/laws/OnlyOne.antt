@@ -5,7 +5,7 @@ use Rattle.std.proofs.Common.{ap, ◌∙◌, sym, arith}
 use Rattle.record.specs.declared.Found.{Found}
 use Rattle.record.specs.Entry.{entry_at}
 use Rattle.record.specs.laws.Sheet.{client_8, done_short}
-use Rattle.record.specs.laws.OnlyOne.{one_entry}
+use Rattle.record.proofs.theorems.OnlyOne.{one_entry}
 use Rattle.reader.specs.declared.ReadingHead.{ReadingHead}
 use Rattle.reader.specs.Head.{under_head, place_after, head_after}
 use Rattle.reader.specs.Same.{SameTake}

@@ -11,7 +11,7 @@ use Rattle.record.specs.declared.Found.TheVariants.{At, Fault}
 use Rattle.record.specs.declared.Answer.TheVariants.{All, Refused}
 use Rattle.record.specs.Entry.{entry_at}
 use Rattle.record.specs.Record.{entry_limit, fault_after, standing_after, bytes_held, survey_of}
-use Rattle.record.specs.laws.Refusals.{entry_faults}
+use Rattle.record.proofs.theorems.Refusals.{entry_faults}
 use Rattle.record.specs.laws.Steps.{Counting, tally, survey_tally, counts_end, counts_full, counts_unread, counts_misplaced, counts_on}
 use Rattle.reader.specs.declared.Progress.{Progress}
 use Rattle.reader.specs.Head.{place_after}

@@ -16,7 +16,7 @@ use Rattle.record.specs.Record.{Held, all_of}
 use Rattle.record.specs.Answers.{count_in}
 use Rattle.record.specs.Examples.{sheet_bytes}
 use Rattle.record.specs.laws.Sheet.{sheet_reads, second_faulty}
-use Rattle.record.specs.laws.OnlyOne.{same_answer}
+use Rattle.record.proofs.theorems.OnlyOne.{same_answer}
 use Rattle.rows.specs.Row.{row_of, room_at, stored_at}
 use Rattle.rows.specs.Rows.{Outcome, Leaves, stored, read_into, write_into, read_outcome, write_outcome}
 use Rattle.rows.specs.laws.Sheet.{sheet_rows, row_client_8, one_row}

@@ -6,7 +6,7 @@ use Rattle.record.specs.declared.Entry.{Entry}
 use Rattle.record.specs.declared.Found.TheVariants.{At, Fault}
 use Rattle.record.specs.declared.Answer.TheVariants.{All, Refused}
 use Rattle.record.specs.Record.{entry_limit, fresh, Held, entries, fault, bytes_held, bytes_of}
-use Rattle.record.specs.laws.Refusals.{no_at, named, record_faults}
+use Rattle.record.proofs.theorems.Refusals.{no_at, named, record_faults}
 use Rattle.record.specs.Named.{Named}
 use Rattle.rows.specs.Row.{row_found, row_at}
 use Rattle.rows.specs.Rows.{rows_held, rows_of, Outcome, stored, read_into, write_into, read_outcome, write_outcome}

@@ -9,7 +9,7 @@ use Rattle.record.specs.declared.Entry.TheVariants.{ReadAsked, WriteAsked, Told,
 use Rattle.record.specs.declared.Found.TheVariants.{At}
 use Rattle.record.specs.Legal.{InRange}
 use Rattle.number.specs.Below.{Words}
-use Rattle.record.specs.laws.EntryTrip.{never, below_none}
+use Rattle.record.proofs.theorems.EntryTrip.{never, below_none}
 use Rattle.rows.specs.Row.{row_of, row_found, row_at}
 use Rattle.rows.specs.laws.RowLaws.{row_24, row_25_client, row_25_cell, row_done, row_told, row_read, row_write}
 

@@ -13,7 +13,7 @@ use Rattle.record.specs.laws.Sheet.{sheet_reads}
 use Rattle.law.specs.Operation.{note, notes, operations}
 use Rattle.law.specs.Part.{part_from, part_of}
 use Rattle.law.specs.laws.Decide.{Yes, No, by_yes, by_no}
-use Rattle.law.specs.laws.Search.{dec_lawful}
+use Rattle.law.proofs.theorems.Search.{dec_lawful}
 use Rattle.verdict.specs.declared.Verdict.{Verdict}
 use Rattle.verdict.specs.Verdict.{asks_for, asked_among, repeats, distinct_from, distinct, taken_for, Judges}
 use Rattle.verdict.specs.laws.Bench.{all_bytes, no_other, lowest_2, twelve_judged, twelve_verdict, stale_judged, stale_verdict}

@@ -13,8 +13,8 @@ use Rattle.record.specs.Legal.{Legal}
 use Rattle.law.specs.Operation.{Op, operations}
 use Rattle.law.specs.Order.{Lawful}
 use Rattle.law.specs.Part.{of_cell}
-use Rattle.law.specs.laws.Operations.{numbered, legal_cell}
-use Rattle.law.specs.laws.Whole.{part_lawful, record_locality_16}
+use Rattle.law.proofs.theorems.Operations.{numbered, legal_cell}
+use Rattle.law.proofs.theorems.Whole.{part_lawful, record_locality_16}
 use Rattle.pairs.specs.Pairs.{PairsUp}
 use Rattle.chains.specs.Chains.{Again}
 use Rattle.clusters.specs.laws.Arrays.{Arrays, arrays, Fit, Fresh, Tally, Swept, LowestIn}
@@ -25,7 +25,7 @@ use Rattle.verdict.specs.declared.Verdict.{Verdict}
 use Rattle.verdict.specs.declared.Verdict.TheVariants.{Lawful as says_lawful, Unlawful as says_unlawful, Refused as says_refused}
 use Rattle.verdict.specs.Verdict.{distinct, taken_for, Judges}
 use Rattle.verdict.specs.laws.Repeats.{distinct_none, distinct_named}
-use Rattle.record.specs.laws.Trip.{reading_legal}
+use Rattle.record.proofs.theorems.Trip.{reading_legal}
 
 -- r is the lowest cell whose operations have no lawful order, 16 if there is none
 pub record LowestOf (ops : List Op) (r : ℕ) : Type 0 where

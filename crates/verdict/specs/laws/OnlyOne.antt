@@ -10,12 +10,12 @@ use Rattle.record.specs.declared.Cell.{Cell}
 use Rattle.number.specs.Below.{Bytes}
 use Rattle.law.specs.Operation.{operations}
 use Rattle.law.specs.Order.{Lawful}
-use Rattle.law.specs.laws.Whole.{record_locality, record_locality_16}
+use Rattle.law.proofs.theorems.Whole.{record_locality, record_locality_16}
 use Rattle.verdict.specs.declared.Verdict.{Verdict}
 use Rattle.verdict.specs.declared.Verdict.TheVariants.{Lawful as says_lawful, Unlawful as says_unlawful, Refused as says_refused}
 use Rattle.verdict.specs.Verdict.{repeats, distinct_from, distinct, taken_for, LowestCell, Judges}
 use Rattle.verdict.specs.Answers.{case_of, refusal_in, entry_in, cell_in}
-use Rattle.record.specs.laws.Trip.{reading_legal}
+use Rattle.record.proofs.theorems.Trip.{reading_legal}
 use Rattle.verdict.specs.Same.{SameVerdict}
 
 -- the entries that are held have no fault

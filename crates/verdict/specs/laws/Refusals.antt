@@ -3,7 +3,7 @@ use Rattle.std.specs.Prelude.{ℕ, ◌+◌, ◌≤◌, ◌≡◌, refl, Bool, tr
 use Rattle.std.proofs.Common.{◌∙◌, arith}
 use Rattle.record.specs.declared.Entry.{Entry}
 use Rattle.record.specs.Record.{Held, entries, fault, bytes_held}
-use Rattle.record.specs.laws.Refusals.{record_faults, no_entries}
+use Rattle.record.proofs.theorems.Refusals.{record_faults, no_entries}
 use Rattle.verdict.specs.declared.Verdict.TheVariants.{Refused as says_refused}
 use Rattle.verdict.specs.Verdict.{repeats, distinct_from, distinct, taken_for, Judges}
 

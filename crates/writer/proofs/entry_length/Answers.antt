@@ -1,6 +1,6 @@
 -- `writer::entry_length` meets its contract: what is counted goes by the kind. Assumes nothing.
 use Rattle.std.proofs.Common.{arith}
-use Rattle.record.specs.laws.EntryTrip.{entry_most}
+use Rattle.record.proofs.theorems.EntryTrip.{entry_most}
 use Rattle.writer.proofs.Laws.{by_kind, done_long, told_long, read_long, write_long}
 use Rattle.writer.proofs.entry_length.Goals as goal
 

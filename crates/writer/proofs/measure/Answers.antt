@@ -4,7 +4,7 @@ use Rattle.record.specs.Record.{entry_limit, fault_after, standing_after}
 use Rattle.record.specs.declared.Entry.{Entry}
 use Rattle.record.specs.declared.Standing.{Standing}
 use Rattle.record.specs.declared.Found.TheVariants.{At}
-use Rattle.record.specs.laws.EntryTrip.{entry_most}
+use Rattle.record.proofs.theorems.EntryTrip.{entry_most}
 use Rattle.record.specs.laws.Steps.{Counting, counts_end, counts_full, counts_unread, counts_misplaced, counts_on}
 use Rattle.rows.specs.laws.RowLaws.{row_next, more_rows, no_more_rows, measure_tally}
 use Rattle.rows.specs.Row.{row_at}

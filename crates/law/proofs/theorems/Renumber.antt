@@ -12,7 +12,7 @@ use Rattle.std.proofs.Math.Decide.{dec_lt}
 use Rattle.law.specs.Operation.{Op}
 use Rattle.law.specs.Order.{In, Before, after, Reads, Ordered, Lawful}
 use Rattle.law.specs.laws.Lists.{pairs_imp, pairs_map, map_pairs}
-use Rattle.law.specs.laws.Locality.{lawful_by, order_of, orderly}
+use Rattle.law.proofs.theorems.Locality.{lawful_by, order_of, orderly}
 use Rattle.law.specs.CellPart.{renumbered, Rises}
 
 module _ (f : ℕ → ℕ) (up : Rises f) where

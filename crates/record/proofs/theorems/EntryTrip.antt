@@ -6,7 +6,7 @@ use Rattle.number.specs.Value.{alternating_of, signed_of}
 use Rattle.number.specs.laws.NumberLaws.{length_some, length_few, bytes_small, bytes_below}
 use Rattle.number.specs.laws.ValueLaws.{signed_alternating, alternating_signed, alternating_below, signed_fits}
 use Rattle.number.specs.Stands.{Stands}
-use Rattle.number.specs.laws.Trip.{drop_past, reads_written, written_read}
+use Rattle.number.proofs.theorems.Trip.{drop_past, reads_written, written_read}
 use Rattle.number.specs.declared.Number.{Number}
 use Rattle.number.specs.declared.Number.TheVariants.{Is, Refused}
 use Rattle.record.specs.declared.Entry.{Entry}

@@ -8,15 +8,15 @@ use Rattle.record.specs.declared.Entry.{Entry}
 use Rattle.record.specs.Legal.{Legal}
 use Rattle.number.specs.Below.{Bytes}
 use Rattle.record.specs.Record.{entries, bytes_held}
-use Rattle.record.specs.laws.Trip.{reading_legal}
+use Rattle.record.proofs.theorems.Trip.{reading_legal}
 use Rattle.law.specs.Operation.{Op, operations}
 use Rattle.law.specs.Order.{In, Lawful}
 use Rattle.law.specs.Part.{part_of, of_cell}
 use Rattle.law.specs.laws.Lists.{of_cell_of}
-use Rattle.law.specs.laws.Locality.{lawful_by, locality}
-use Rattle.law.specs.laws.Operations.{number_apart, stops_after, legal_cell}
-use Rattle.law.specs.laws.Renumber.{renumber}
-use Rattle.law.specs.laws.Parts.{cell_part}
+use Rattle.law.proofs.theorems.Locality.{lawful_by, locality}
+use Rattle.law.proofs.theorems.Operations.{number_apart, stops_after, legal_cell}
+use Rattle.law.proofs.theorems.Renumber.{renumber}
+use Rattle.law.proofs.theorems.Parts.{cell_part}
 
 -- nothing to order is lawful
 pub lawful_none : (s : List Op) → ((x : Op) → In x s → ⊥) → Lawful s

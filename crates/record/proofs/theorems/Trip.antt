@@ -5,7 +5,7 @@ use Rattle.std.specs.Prelude.{◌≡◌, refl, Bool, true, false, drop, ltb}
 use Rattle.std.proofs.Math.Path.{ap}
 use Rattle.std.proofs.Common.{◌∙◌, sym, arith, length-append, length-drop, drop_of_length-le, lt-ltb, le-ltb, ltb-false}
 use Rattle.std.proofs.Math.ListN.{length}
-use Rattle.number.specs.laws.Trip.{drop_past}
+use Rattle.number.proofs.theorems.Trip.{drop_past}
 use Rattle.record.specs.declared.Entry.{Entry}
 use Rattle.record.specs.declared.Found.{Found}
 use Rattle.record.specs.declared.Found.TheVariants.{At}
@@ -15,7 +15,7 @@ use Rattle.record.specs.Record.{longest_record, entry_limit, fresh, standing_aft
 use Rattle.record.specs.Legal.{InRange, Follows, Legal}
 use Rattle.number.specs.Below.{byte_limit, Below, Bytes}
 use Rattle.record.specs.laws.Steps.{ends, onward, first, empty}
-use Rattle.record.specs.laws.EntryTrip.{reads_entry, written_entry, entry_some, entry_few, below_none, below_append, entry_bytes_lem}
+use Rattle.record.proofs.theorems.EntryTrip.{reads_entry, written_entry, entry_some, entry_few, below_none, below_append, entry_bytes_lem}
 
 -- ---- what is held has no fault
 

@@ -11,7 +11,7 @@ use Rattle.std.proofs.Math.Decide.{ℕ_discrete, dec_lt}
 use Rattle.std.proofs.lemmas.Bool.{eqb-false}
 use Rattle.law.specs.Operation.{Op}
 use Rattle.law.specs.Order.{In, Pairs, Before, after, Reads, Lawful}
-use Rattle.law.specs.laws.Locality.{lawful_by, order_of, orderly}
+use Rattle.law.proofs.theorems.Locality.{lawful_by, order_of, orderly}
 use Rattle.law.specs.laws.Decide.{dec_as, dec_both, dec_not, dec_to, dec_T, dec_all, dec_some, dec_value, dec_op, dec_before}
 
 -- l is a lawful order of what is left, s, where the cells hold m

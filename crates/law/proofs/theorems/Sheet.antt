@@ -6,7 +6,7 @@ use Rattle.law.specs.Operation.{note, notes, operations}
 use Rattle.law.specs.Order.{Lawful}
 use Rattle.law.specs.Part.{part_from, part_of}
 use Rattle.law.specs.laws.Decide.{by_yes, by_no}
-use Rattle.law.specs.laws.Search.{dec_lawful}
+use Rattle.law.proofs.theorems.Search.{dec_lawful}
 use Rattle.law.specs.Examples.{reads, writes, told_by, done_by}
 
 -- no entries

@@ -10,7 +10,7 @@ use Rattle.protocol.specs.laws.Place.{put_one, put_here}
 use Rattle.protocol.specs.Later.{Grown, Next}
 use Rattle.protocol.specs.laws.Growth.{grown_same, grown_open, grows_put, minted_grows}
 use Rattle.protocol.specs.laws.Frame.{Change, frame}
-use Rattle.protocol.specs.laws.Pairs.{raised_is, raised_least, held_is, held_least}
+use Rattle.protocol.proofs.theorems.Pairs.{raised_is, raised_least, held_is, held_least}
 
 module _ (S : Setting) (v : View) (h : Invariant S v) where
   -- what may be held in the view may be held after operation o grew

@@ -5,7 +5,7 @@ use Rattle.std.proofs.Math.Decide.{ℕ_discrete}
 use Rattle.protocol.specs.View.{Setting, Pair, Op, View, Minted}
 use Rattle.protocol.specs.Move.{fresh, Reached, first, then}
 use Rattle.protocol.specs.Invariant.{Invariant}
-use Rattle.protocol.specs.laws.Steps.{step}
+use Rattle.protocol.proofs.theorems.Steps.{step}
 use Rattle.protocol.specs.Tagged.{chosen, tag, Gives, Tagged}
 
 -- ---- which operations are chosen

@@ -7,9 +7,9 @@ use Rattle.std.proofs.Math.IntN.{ℤ_discrete}
 use Rattle.law.specs.Operation.{Op}
 use Rattle.law.specs.Order.{In, Pairs, Before, Lawful}
 use Rattle.law.specs.Tags.{Chosen, Gives, Tagged}
-use Rattle.law.specs.laws.TagTheorem.{same, at, at_in, tags}
+use Rattle.law.proofs.theorems.TagTheorem.{same, at, at_in, tags}
 use Rattle.law.specs.Cluster.{Distinct, Member, Rule}
-use Rattle.law.specs.laws.Zones.{crossless_clear, before_zones, greatest, greatest_high, greatest_at, with_value, far_of, least_of, most_of, zones_of}
+use Rattle.law.proofs.theorems.Zones.{crossless_clear, before_zones, greatest, greatest_high, greatest_at, with_value, far_of, least_of, most_of, zones_of}
 
 -- ---- from tags to the rule
 

@@ -5,7 +5,7 @@ use Rattle.std.proofs.Math.Decide.{dec_lt}
 use Rattle.std.proofs.Math.IntN.{ℤ_discrete}
 use Rattle.law.specs.Operation.{Op}
 use Rattle.law.specs.Order.{In, Pairs, Before}
-use Rattle.law.specs.laws.TagTheorem.{same}
+use Rattle.law.proofs.theorems.TagTheorem.{same}
 use Rattle.law.specs.Cluster.{Distinct, Member, Sourced, Rule}
 
 -- w is a write of s

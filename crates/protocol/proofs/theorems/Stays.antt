@@ -8,7 +8,7 @@ use Rattle.protocol.specs.Invariant.{Invariant}
 use Rattle.protocol.specs.laws.Place.{put_here}
 use Rattle.protocol.specs.Later.{Later}
 use Rattle.protocol.specs.laws.Growth.{same_cell, same_start, same_stamp, ended_before, minted_grows}
-use Rattle.protocol.specs.laws.Pairs.{raised_least}
+use Rattle.protocol.proofs.theorems.Pairs.{raised_least}
 
 -- ---- what is sent is true
 

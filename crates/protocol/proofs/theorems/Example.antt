@@ -2,8 +2,8 @@
 use Rattle.std.specs.Prelude.{◌≡◌, refl, Bool, true, false, ℕ, ◌≤◌, eqb, pos}
 use Rattle.std.proofs.Common.{arith}
 use Rattle.protocol.specs.Move.{start, hear, choose, take, count, finish, Reached, first, then}
-use Rattle.protocol.specs.laws.Stays.{tell_true, keep_true, kept_true}
-use Rattle.protocol.specs.laws.Atomic.{reached_keeps}
+use Rattle.protocol.proofs.theorems.Stays.{tell_true, keep_true, kept_true}
+use Rattle.protocol.proofs.theorems.Atomic.{reached_keeps}
 use Rattle.protocol.specs.Examples.{one, nine, asked, chose, wrote, asked', chose', read}
 
 -- ---- client 0 writes 9 to cell 0, as operation 0

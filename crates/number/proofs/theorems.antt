@@ -1,0 +1,3 @@
+-- What is proved of the definitions.
+pub mod Trip
+pub mod OnlyOne

@@ -1,0 +1,5 @@
+-- What is proved of the definitions.
+pub mod EntryTrip
+pub mod OnlyOne
+pub mod Refusals
+pub mod Trip
