@@ -1,4 +1,4 @@
-// Standard input: reading it into lent bytes, how that came to its end, and what is left of the input when the program has what it takes.
+// The input of a program: reading it into lent bytes, how that came to its end, and what is left of it when the program has what it takes.
 #![tactic(auto)]
 
 ghost use Rattle.std.specs.Counts.{IsPrefixLen};
