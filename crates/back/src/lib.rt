@@ -1,5 +1,6 @@
 // What a rack writes down reads back, and the judge takes it: theorems on the engine's record in specs/, and the call that writes it.
 #![tactic(auto)]
+
 ghost use Rattle.std.specs.Prelude.{◌≡◌, ◌*◌, ◌≤◌, length};
 ghost use Rattle.std.proofs.lemmas.List.Edits.{sets};
 ghost use Rattle.record.specs.Record.{entry_limit};

@@ -1,5 +1,6 @@
 // The judge's table of writes: from a cell and a value to the entry that asks to write it.
 #![tactic(auto)]
+
 ghost use Rattle.std.specs.Prelude.{◌≡◌, ◌+◌, ◌%◌, ◌≤◌, ◌<◌, get_or};
 ghost use Rattle.record.specs.Record.{entry_limit};
 ghost use Rattle.chains.specs.Chains.{Again};

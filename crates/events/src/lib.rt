@@ -1,5 +1,6 @@
 // Events: from four words, what they are about, and the refusals that every plan has to pass.
 #![tactic(auto)]
+
 ghost use Rattle.std.specs.Prelude.{◌≡◌, ◌&&◌, cond, ◌+◌, ◌<◌, ltb};
 ghost use Rattle.std.specs.Int.Count.{ones};
 ghost use Rattle.number.specs.Below.{byte_limit};

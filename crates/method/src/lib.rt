@@ -1,5 +1,6 @@
 // The kinds of thing that events and plans speak of. What each event does is defined over them in specs/, with the method as its law; no function is needed.
 #![tactic(auto)]
+
 use quorum::Quorums;
 use record::{Cell, Client, Entry, Replica};
 use stamps::Pair;

@@ -1,5 +1,6 @@
 // The judge's first pass: a record's entries are read, and each end is paired with its start.
 #![tactic(auto)]
+
 ghost use Rattle.std.specs.Prelude.{◌≡◌, ◌<◌, ◌≤◌};
 ghost use Rattle.record.specs.Entry.{last_client};
 ghost use Rattle.record.specs.Record.{entry_limit};

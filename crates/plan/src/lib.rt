@@ -1,5 +1,6 @@
 // What each event does, planned from the few things that it looks at: the quorums, the power, the client, the pair and the slot.
 #![tactic(auto)]
+
 ghost use Rattle.std.specs.Prelude.{◌≡◌, true, false, ◌≢◌, ◌<◌};
 ghost use Rattle.stamps.specs.Stamp.{last_number};
 ghost use Rattle.method.specs.declared.Note.TheVariants.{Ended};

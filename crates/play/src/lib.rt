@@ -1,5 +1,6 @@
 // A script played: the rack that it names is made, its events are run on it, and the lines of the run or the bytes of its record are written.
 #![tactic(auto)]
+
 ghost use Rattle.std.specs.Prelude.{◌≡◌, true, min};
 ghost use Rattle.text.specs.Text.{Printed};
 ghost use Rattle.script.specs.Script.{events_from, words_of};

@@ -1,5 +1,6 @@
 // What every run from a fresh rack keeps: its record is lawful. specs/ has the theorem; this is the code that it speaks of.
 #![tactic(auto)]
+
 ghost use Rattle.std.specs.Prelude.{◌≡◌};
 ghost use Rattle.rack.specs.Places.{of_sizes};
 ghost use Rattle.law.specs.Operation.{operations};

@@ -1,5 +1,6 @@
 // The replicas that have answered: a set, one bit each, and the ones are counted.
 #![tactic(auto)]
+
 ghost use Rattle.std.specs.Prelude.{◌≡◌, ◌≤◌, ◌<◌};
 ghost use Rattle.quorum.specs.Sets.{set_bits, has_replica, with_replica, count_of, asks_enough, keeps_enough, every_replica, others, within, without_replica, majority, lowest_of};
 ghost use Rattle.quorum.specs.Sets.{rest_of};

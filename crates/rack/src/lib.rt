@@ -1,6 +1,7 @@
 // The engine's state: a rack of replicas, clients and cells joined by a wire; its maker, and the answers owed. What events and schedules leave of it is
 // defined in specs/.
 #![tactic(auto)]
+
 pub mod maker;
 pub mod owed;
 

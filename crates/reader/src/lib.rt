@@ -1,5 +1,6 @@
 // Reading a record: one entry at a place of the bytes, the reading head, and how many entries there are.
 #![tactic(auto)]
+
 ghost use Rattle.std.specs.Prelude.{◌≡◌};
 ghost use Rattle.number.specs.Number.{number_at};
 ghost use Rattle.record.specs.Entry.{up_to, fields_at, entry_at};

@@ -1,5 +1,6 @@
 // A rack's record: its entries, and what each client has open after them.
 #![tactic(auto)]
+
 ghost use Rattle.std.specs.Prelude.{◌≡◌, get_or, set, eqb, cond};
 ghost use Rattle.record.specs.Record.{fresh, fault_after, standing_after};
 

@@ -1,5 +1,6 @@
 // The line that the judge program writes for a verdict.
 #![tactic(auto)]
+
 ghost use Rattle.std.specs.Prelude.{◌≤◌};
 ghost use Rattle.number.specs.Wrote.{Wrote};
 ghost use Rattle.text.specs.Text.{Printed};

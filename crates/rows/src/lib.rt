@@ -1,5 +1,6 @@
 // A record in memory that is lent: rows of four numbers, and reading bytes into them.
 #![tactic(auto)]
+
 ghost use Rattle.std.specs.Prelude.{◌≡◌, ◌+◌, ◌≤◌, length};
 ghost use Rattle.std.proofs.lemmas.List.Edits.{sets};
 ghost use Rattle.record.specs.Record.{bytes_held};

@@ -1,5 +1,6 @@
 // A script: the bytes that say which rack is made, with what allowance, and which events are run on it.
 #![tactic(auto)]
+
 ghost use Rattle.std.specs.Prelude.{◌≡◌, [], ◌∷◌, ◌+◌, ◌≤◌, length};
 ghost use Rattle.std.proofs.lemmas.List.Edits.{sets};
 ghost use Rattle.script.specs.declared.Words.TheVariants.{Are};

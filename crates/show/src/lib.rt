@@ -1,5 +1,6 @@
 // The lines that say what a run did and left, for people and for comparison.
 #![tactic(auto)]
+
 ghost use Rattle.std.specs.Prelude.{◌≡◌, ◌++◌, map, min, get_or, take};
 ghost use Rattle.text.specs.Text.{field, line_feed, hex_text, Printed};
 ghost use Rattle.record.specs.Entry.{entry_bytes};

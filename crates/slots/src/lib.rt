@@ -1,5 +1,6 @@
 // Which of the wire's slots are free, a bit each: the lowest is found by counting zeros, the free ones by counting ones.
 #![tactic(auto)]
+
 ghost use Rattle.std.specs.Prelude.{◌≡◌, Bool, ℕ, ◌-◌, ◌^◌, ◌<◌, ◌≤◌};
 ghost use Rattle.std.specs.Int.Count.{ones, count_trailing_zeros};
 ghost use Rattle.slots.specs.Free.{word_bits, slot_count, first_free, count_free, given_at, marked_at};

@@ -1,5 +1,6 @@
 // Whether a rack is sound, part by part.
 #![tactic(auto)]
+
 ghost use Rattle.std.specs.Prelude.{◌≡◌, true, ◌<◌, ◌≤◌, get_or};
 ghost use Rattle.record.specs.Entry.{client_limit, cell_limit};
 ghost use Rattle.stamps.specs.Stamp.{fresh_pair};

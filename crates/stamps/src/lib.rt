@@ -1,5 +1,6 @@
 // Stamps, and the pairs of a stamp and a value: which stamp is the lesser, what a pair becomes when another comes, and the pair that all starts from.
 #![tactic(auto)]
+
 ghost use Rattle.std.specs.Prelude.{◌≡◌};
 ghost use Rattle.stamps.specs.Stamp.{stamp_less, raised, fresh_pair};
 

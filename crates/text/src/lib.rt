@@ -1,5 +1,6 @@
 // Lines for people: words, numbers in decimal and bytes in hex, written from a place on as far as the lent bytes go.
 #![tactic(auto)]
+
 ghost use Rattle.std.specs.Prelude.{◌≡◌, [], ◌∷◌, ◌<◌};
 ghost use Rattle.text.specs.Text.{hex_base, digits_of, decimal, field, value_text, hex_digit, hex_byte, hex_text, Printed};
 

@@ -1,6 +1,7 @@
 // The judge: bytes to a verdict. One pass reads and pairs the entries, one enters the writes into a table, one finds each cluster's least
 // stop and greatest start, and one sweeps over the clusters by place.
 #![tactic(auto)]
+
 ghost use Rattle.std.specs.Prelude.{◌≡◌, ◌+◌, ◌<◌, ◌≤◌, min, max, length, get_or, set, cond, eqb};
 ghost use Rattle.record.specs.Record.{entry_limit};
 ghost use Rattle.record.specs.Entry.{cell_limit};

@@ -1,5 +1,6 @@
 // A rack in lent memory: words of 32 bits, laid out as crate layout says, and schedules run on it.
 #![tactic(auto)]
+
 ghost use Rattle.std.specs.Prelude.{◌≡◌, true, cond, ◌+◌, ◌*◌, ◌≤◌, ◌<◌, length, get_or, replicate, ltb};
 ghost use Rattle.std.proofs.lemmas.List.Edits.{sets};
 ghost use Rattle.record.specs.Entry.{client_limit};

@@ -1,5 +1,6 @@
 // The writer: an entry's bytes, and those of the record that rows in lent memory hold.
 #![tactic(auto)]
+
 ghost use Rattle.std.specs.Prelude.{◌≡◌, ◌+◌, ◌≤◌, length};
 ghost use Rattle.number.specs.Number.{number_bytes, Placed};
 ghost use Rattle.record.specs.Entry.{entry_bytes};

@@ -7,10 +7,10 @@ pub returns-then-crowded : goal.returns-then-crowded
 unfolding checked noted
 returns-then-crowded c =
     rw (
-  c.in-Go.is,
-  c.in-Asked.is,
-  crowded_by _ _ _ _ _ c.crowded.ensures c.owed_by_all.ensures c.if-crowded.true,
-)
+      c.in-Go.is,
+      c.in-Asked.is,
+      crowded_by _ _ _ _ _ c.crowded.ensures c.owed_by_all.ensures c.if-crowded.true,
+    )
 
 pub returns-in-No : goal.returns-in-No
 unfolding checked noted

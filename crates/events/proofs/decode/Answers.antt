@@ -23,82 +23,82 @@ pub returns-then-kind-eq4 : goal.returns-then-kind-eq4
 unfolding event_of
 returns-then-kind-eq4 c =
     rw (
-  eq-eqb _ _ c.if-kind-eq4.true,
-  ne_eqb _ _ c.if-kind-eq3.false,
-  ne_eqb _ _ c.if-kind-eq2.false,
-  ne_eqb _ _ c.if-kind-eq1.false,
-  ne_eqb _ _ c.if-kind-eq0.false,
-)
+      eq-eqb _ _ c.if-kind-eq4.true,
+      ne_eqb _ _ c.if-kind-eq3.false,
+      ne_eqb _ _ c.if-kind-eq2.false,
+      ne_eqb _ _ c.if-kind-eq1.false,
+      ne_eqb _ _ c.if-kind-eq0.false,
+    )
 
 pub returns-then-kind-eq5 : goal.returns-then-kind-eq5
 unfolding event_of
 returns-then-kind-eq5 c =
     rw (
-  c.resend.ensures,
-  eq-eqb _ _ c.if-kind-eq5.true,
-  ne_eqb _ _ c.if-kind-eq4.false,
-  ne_eqb _ _ c.if-kind-eq3.false,
-  ne_eqb _ _ c.if-kind-eq2.false,
-  ne_eqb _ _ c.if-kind-eq1.false,
-  ne_eqb _ _ c.if-kind-eq0.false,
-)
+      c.resend.ensures,
+      eq-eqb _ _ c.if-kind-eq5.true,
+      ne_eqb _ _ c.if-kind-eq4.false,
+      ne_eqb _ _ c.if-kind-eq3.false,
+      ne_eqb _ _ c.if-kind-eq2.false,
+      ne_eqb _ _ c.if-kind-eq1.false,
+      ne_eqb _ _ c.if-kind-eq0.false,
+    )
 
 pub returns-then-kind-eq6 : goal.returns-then-kind-eq6
 unfolding event_of
 returns-then-kind-eq6 c =
     rw (
-  c.stop.ensures,
-  eq-eqb _ _ c.if-kind-eq6.true,
-  ne_eqb _ _ c.if-kind-eq5.false,
-  ne_eqb _ _ c.if-kind-eq4.false,
-  ne_eqb _ _ c.if-kind-eq3.false,
-  ne_eqb _ _ c.if-kind-eq2.false,
-  ne_eqb _ _ c.if-kind-eq1.false,
-  ne_eqb _ _ c.if-kind-eq0.false,
-)
+      c.stop.ensures,
+      eq-eqb _ _ c.if-kind-eq6.true,
+      ne_eqb _ _ c.if-kind-eq5.false,
+      ne_eqb _ _ c.if-kind-eq4.false,
+      ne_eqb _ _ c.if-kind-eq3.false,
+      ne_eqb _ _ c.if-kind-eq2.false,
+      ne_eqb _ _ c.if-kind-eq1.false,
+      ne_eqb _ _ c.if-kind-eq0.false,
+    )
 
 pub returns-then-kind-eq7 : goal.returns-then-kind-eq7
 unfolding event_of
 returns-then-kind-eq7 c =
     rw (
-  c.off.ensures,
-  eq-eqb _ _ c.if-kind-eq7.true,
-  ne_eqb _ _ c.if-kind-eq6.false,
-  ne_eqb _ _ c.if-kind-eq5.false,
-  ne_eqb _ _ c.if-kind-eq4.false,
-  ne_eqb _ _ c.if-kind-eq3.false,
-  ne_eqb _ _ c.if-kind-eq2.false,
-  ne_eqb _ _ c.if-kind-eq1.false,
-  ne_eqb _ _ c.if-kind-eq0.false,
-)
+      c.off.ensures,
+      eq-eqb _ _ c.if-kind-eq7.true,
+      ne_eqb _ _ c.if-kind-eq6.false,
+      ne_eqb _ _ c.if-kind-eq5.false,
+      ne_eqb _ _ c.if-kind-eq4.false,
+      ne_eqb _ _ c.if-kind-eq3.false,
+      ne_eqb _ _ c.if-kind-eq2.false,
+      ne_eqb _ _ c.if-kind-eq1.false,
+      ne_eqb _ _ c.if-kind-eq0.false,
+    )
 
 pub returns-then-kind-eq8 : goal.returns-then-kind-eq8
 unfolding event_of
 returns-then-kind-eq8 c =
     rw (
-  c.on.ensures,
-  eq-eqb _ _ c.if-kind-eq8.true,
-  ne_eqb _ _ c.if-kind-eq7.false,
-  ne_eqb _ _ c.if-kind-eq6.false,
-  ne_eqb _ _ c.if-kind-eq5.false,
-  ne_eqb _ _ c.if-kind-eq4.false,
-  ne_eqb _ _ c.if-kind-eq3.false,
-  ne_eqb _ _ c.if-kind-eq2.false,
-  ne_eqb _ _ c.if-kind-eq1.false,
-  ne_eqb _ _ c.if-kind-eq0.false,
-)
+      c.on.ensures,
+      eq-eqb _ _ c.if-kind-eq8.true,
+      ne_eqb _ _ c.if-kind-eq7.false,
+      ne_eqb _ _ c.if-kind-eq6.false,
+      ne_eqb _ _ c.if-kind-eq5.false,
+      ne_eqb _ _ c.if-kind-eq4.false,
+      ne_eqb _ _ c.if-kind-eq3.false,
+      ne_eqb _ _ c.if-kind-eq2.false,
+      ne_eqb _ _ c.if-kind-eq1.false,
+      ne_eqb _ _ c.if-kind-eq0.false,
+    )
 
 pub returns : goal.returns
 unfolding event_of
 returns c =
     rw (
-  ne_eqb _ _ c.if-kind-eq8.false,
-  ne_eqb _ _ c.if-kind-eq7.false,
-  ne_eqb _ _ c.if-kind-eq6.false,
-  ne_eqb _ _ c.if-kind-eq5.false,
-  ne_eqb _ _ c.if-kind-eq4.false,
-  ne_eqb _ _ c.if-kind-eq3.false,
-  ne_eqb _ _ c.if-kind-eq2.false,
-  ne_eqb _ _ c.if-kind-eq1.false,
-  ne_eqb _ _ c.if-kind-eq0.false,
-)
+      ne_eqb _ _ c.if-kind-eq8.false,
+      ne_eqb _ _ c.if-kind-eq7.false,
+      ne_eqb _ _ c.if-kind-eq6.false,
+      ne_eqb _ _ c.if-kind-eq5.false,
+      ne_eqb _ _ c.if-kind-eq4.false,
+      ne_eqb _ _ c.if-kind-eq3.false,
+      ne_eqb _ _ c.if-kind-eq2.false,
+      ne_eqb _ _ c.if-kind-eq1.false,
+      ne_eqb _ _ c.if-kind-eq0.false,
+    )

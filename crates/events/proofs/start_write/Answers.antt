@@ -16,7 +16,7 @@ pub returns : goal.returns
 unfolding byte
 returns c =
     rw (
-  signed_of_bits c.signed-v.result c.args.value (omega arith) c.signed-v.ensures,
-  lt-ltb _ _ c.if-a-ge-BYTE_LIMIT.false,
-  lt-ltb _ _ c.if-b-ge-BYTE_LIMIT.false,
-)
+      signed_of_bits c.signed-v.result c.args.value (omega arith) c.signed-v.ensures,
+      lt-ltb _ _ c.if-a-ge-BYTE_LIMIT.false,
+      lt-ltb _ _ c.if-b-ge-BYTE_LIMIT.false,
+    )

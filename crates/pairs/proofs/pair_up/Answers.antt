@@ -21,8 +21,7 @@ returns-then-k-ne0 c =
     (sym c.entry_at.ensures ∙ c.in-At.is) c.fault-k.ensures c.if-k-ne0.true
 
 pub note_entry-requires : goal.note_entry-requires
-note_entry-requires c =
-    (
+note_entry-requires c = (
   pairs_few c.loop-at.invariant
       c.if-n-eq-ENTRY_LIMIT.false,
   (written_entry _ _ _ _ (λ i. (c.type_inv.s i).fits) (sym c.entry_at.ensures

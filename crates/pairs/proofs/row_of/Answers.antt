@@ -16,18 +16,18 @@ returns-in-ReadAsked c = rw c.in-ReadAsked.is c.start_row.ensures
 pub returns-in-WriteAsked : goal.returns-in-WriteAsked
 returns-in-WriteAsked c =
     simp (
-  c.in-WriteAsked.is,
-  alternating_of_bits c.in-WriteAsked.v c.alternating.result (search rules)
-      c.alternating.ensures,
-) c.start_row-in-WriteAsked.ensures
+      c.in-WriteAsked.is,
+      alternating_of_bits c.in-WriteAsked.v c.alternating.result (search rules)
+          c.alternating.ensures,
+    ) c.start_row-in-WriteAsked.ensures
 
 pub returns-in-Told : goal.returns-in-Told
 returns-in-Told c =
     simp (
-  c.in-Told.is,
-  alternating_of_bits c.in-Told.v c.alternating-in-Told.result (search rules)
-      c.alternating-in-Told.ensures,
-) c.end_row.ensures
+      c.in-Told.is,
+      alternating_of_bits c.in-Told.v c.alternating-in-Told.result (search rules)
+          c.alternating-in-Told.ensures,
+    ) c.end_row.ensures
 
 pub returns-in-Done : goal.returns-in-Done
 returns-in-Done c = rw c.in-Done.is c.end_row-in-Done.ensures

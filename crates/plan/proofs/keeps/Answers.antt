@@ -6,9 +6,9 @@ pub returns : goal.returns
 unfolding keeps_of
 returns c =
     rw (
-  c.planned.ensures,
-  c.every.ensures,
-  c.to_replicas.ensures,
-  c.at_work.ensures,
-  c.keeping.ensures,
-)
+      c.planned.ensures,
+      c.every.ensures,
+      c.to_replicas.ensures,
+      c.at_work.ensures,
+      c.keeping.ensures,
+    )

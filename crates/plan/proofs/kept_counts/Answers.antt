@@ -11,8 +11,8 @@ pub returns : goal.returns
 unfolding kept_counts
 returns c =
     rw (
-  c.planned.ensures,
-  c.at_work.ensures,
-  c.keeping.ensures,
-  sym c.keeps_enough.ensures ∙ c.if-keeps_enough.false,
-)
+      c.planned.ensures,
+      c.at_work.ensures,
+      c.keeping.ensures,
+      sym c.keeps_enough.ensures ∙ c.if-keeps_enough.false,
+    )

@@ -15,8 +15,8 @@ pub returns-else-has : goal.returns-else-has
 unfolding kept_in
 returns-else-has c =
     rw (
-  c.kept_counts.ensures,
-  c.with.ensures,
-  c.in-Keeping.is,
-  sym c.has.ensures ∙ c.if-has.false,
-)
+      c.kept_counts.ensures,
+      c.with.ensures,
+      c.in-Keeping.is,
+      sym c.has.ensures ∙ c.if-has.false,
+    )

@@ -6,10 +6,10 @@ pub returns : goal.returns
 unfolding start_of
 returns c =
     rw (
-  c.planned.ensures,
-  c.every.ensures,
-  c.to_replicas.ensures,
-  c.at_work.ensures,
-  c.asked.ensures,
-  c.requires.1,
-)
+      c.planned.ensures,
+      c.every.ensures,
+      c.to_replicas.ensures,
+      c.at_work.ensures,
+      c.asked.ensures,
+      c.requires.1,
+    )

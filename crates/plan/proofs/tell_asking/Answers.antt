@@ -11,8 +11,8 @@ pub returns : goal.returns
 unfolding tell_phase
 returns c =
     rw (
-  c.tell_counts.ensures,
-  c.hold.ensures,
-  c.with.ensures,
-  sym c.has.ensures ∙ c.if-has.false,
-)
+      c.tell_counts.ensures,
+      c.hold.ensures,
+      c.with.ensures,
+      sym c.has.ensures ∙ c.if-has.false,
+    )

@@ -11,8 +11,8 @@ pub returns : goal.returns
 unfolding tell_enough
 returns c =
     rw (
-  c.planned.ensures,
-  c.at_work.ensures,
-  c.asking.ensures,
-  sym c.asks_enough.ensures ∙ c.if-asks_enough.false,
-)
+      c.planned.ensures,
+      c.at_work.ensures,
+      c.asking.ensures,
+      sym c.asks_enough.ensures ∙ c.if-asks_enough.false,
+    )

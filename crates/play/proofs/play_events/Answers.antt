@@ -16,11 +16,11 @@ returns-then-filled-eq0 c =
 pub overflow_add-done : goal.overflow_add-done
 overflow_add-done c =
     omega (
-  arith,
-  few_done _ _ _ _ c.run-part.ensures,
-  c.least-n.ensures,
-  c.loop-done-test.true,
-)
+      arith,
+      few_done _ _ _ _ c.run-part.ensures,
+      c.least-n.ensures,
+      c.loop-done-test.true,
+    )
 
 pub returns-then-part-n : goal.returns-then-part-n
 returns-then-part-n c =
@@ -33,16 +33,15 @@ returns-then-part-n c =
 pub loop-done-smaller : goal.loop-done-smaller
 loop-done-smaller c =
     omega (
-  arith,
-  c.least-n.ensures,
-  c.if-filled-eq0.false,
-  c.if-part-n.false,
-  c.loop-done-test.true,
-)
+      arith,
+      c.least-n.ensures,
+      c.if-filled-eq0.false,
+      c.if-part-n.false,
+      c.loop-done-test.true,
+    )
 
 pub loop-done-preserved : goal.loop-done-preserved
-loop-done-preserved c =
-    (
+loop-done-preserved c = (
   still_long c.fill-filled.ensures
       c.loop-done.invariant.0,
   went_on _ _ _ _ _ _ c.loop-done.invariant.1 _ _ _

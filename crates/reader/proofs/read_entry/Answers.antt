@@ -16,17 +16,17 @@ pub returns-in-Refused-read_up_to : goal.returns-in-Refused-read_up_to
 unfolding entry_at and_then
 returns-in-Refused-read_up_to c =
     simp (
-  sym c.read_up_to.ensures
-      ∙ c.in-Is.is,
-  sym c.read_up_to-in-Is.ensures ∙ c.in-Refused-read_up_to.is,
-)
+      sym c.read_up_to.ensures
+          ∙ c.in-Is.is,
+      sym c.read_up_to-in-Is.ensures ∙ c.in-Refused-read_up_to.is,
+    )
 
 pub returns-in-Is-read_up_to : goal.returns-in-Is-read_up_to
 unfolding entry_at and_then
 returns-in-Is-read_up_to c =
     simp (
-  sym c.read_up_to.ensures
-      ∙ c.in-Is.is,
-  sym c.read_up_to-in-Is.ensures
-      ∙ c.in-Is-read_up_to.is,
-) c.read_fields.ensures
+      sym c.read_up_to.ensures
+          ∙ c.in-Is.is,
+      sym c.read_up_to-in-Is.ensures
+          ∙ c.in-Is-read_up_to.is,
+    ) c.read_fields.ensures

@@ -20,12 +20,12 @@ loop-head-init c = (refl, rw c.begun-progress.ensures (survey_begins _))
 pub loop-head-smaller : goal.loop-head-smaller
 loop-head-smaller c =
     (turned _ _ _ _ _ _ c.loop-head.invariant.0 c.loop-head.invariant.1 (sym c.goes_on.ensures ∙ c.loop-head-test.true) c.take-found.ensures.0 c.take-found.ensures.1
-        c.after-progress.ensures).1.fewer
+    c.after-progress.ensures).1.fewer
 
 pub loop-head-preserved : goal.loop-head-preserved
 loop-head-preserved c =
     let t = turned _ _ _ _ _ _ c.loop-head.invariant.0 c.loop-head.invariant.1 (sym c.goes_on.ensures ∙ c.loop-head-test.true) c.take-found.ensures.0 c.take-found.ensures.1
-        c.after-progress.ensures in
+    c.after-progress.ensures in
     (t.0, t.1.after)
 
 pub returns : goal.returns

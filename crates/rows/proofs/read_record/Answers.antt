@@ -22,7 +22,7 @@ returns-in-Refused c =
 pub returns-else-rows-n : goal.returns-else-rows-n
 returns-else-rows-n c =
     record {
-  answers = sym (read_all _ _ _ (sym c.survey.ensures
-      ∙ c.in-All.is) (omega arith));
-  leaves = c.store_rows.ensures;
-}
+      answers = sym (read_all _ _ _ (sym c.survey.ensures
+          ∙ c.in-All.is) (omega arith));
+      leaves = c.store_rows.ensures;
+    }

@@ -12,19 +12,19 @@ pub returns-in-WriteAsked : goal.returns-in-WriteAsked
 unfolding row_of
 returns-in-WriteAsked c =
     simp (
-  c.in-WriteAsked.is,
-  alternating_of_bits c.in-WriteAsked.v c.alternating.result
-      (search rules) c.alternating.ensures,
-)
+      c.in-WriteAsked.is,
+      alternating_of_bits c.in-WriteAsked.v c.alternating.result
+          (search rules) c.alternating.ensures,
+    )
 
 pub returns-in-Told : goal.returns-in-Told
 unfolding row_of
 returns-in-Told c =
     simp (
-  c.in-Told.is,
-  alternating_of_bits c.in-Told.v c.alternating-in-Told.result (search rules)
-      c.alternating-in-Told.ensures,
-)
+      c.in-Told.is,
+      alternating_of_bits c.in-Told.v c.alternating-in-Told.result (search rules)
+          c.alternating-in-Told.ensures,
+    )
 
 pub returns-in-Done : goal.returns-in-Done
 unfolding row_of

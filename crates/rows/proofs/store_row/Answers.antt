@@ -11,8 +11,7 @@ pub returns-then-rows-at : goal.returns-then-rows-at
 returns-then-rows-at c = (sym (room_out _ _ (omega (arith, c.if-rows-at.true))), sym (stored_out _ _ _ (omega (arith, c.if-rows-at.true))))
 
 pub returns : goal.returns
-returns c =
-    (
+returns c = (
   sym (room_in _ _ (omega (arith, c.if-rows-at.false))),
   c.put_row.ensures ∙ ap (sets _ _) c.row_of.ensures
       ∙ sym (stored_in _ _ _ (omega (arith, c.if-rows-at.false))),

@@ -6,8 +6,7 @@ use Rattle.runs.specs.laws.Loop.{shipping_more, shipping_end, entry_place, asked
 use Rattle.schedule.proofs.go_on.Goals as goal
 
 pub loop-i-init : goal.loop-i-init
-loop-i-init c =
-    (
+loop-i-init c = (
   c.most-n.ensures,
   (search rules, search rules),
   going_start _ _ _ _ _ c.requires.0 c.requires.1.0
@@ -27,12 +26,12 @@ returns-then-not-in_rack c =
 pub offset_bounds-r-j : goal.offset_bounds-r-j
 offset_bounds-r-j c =
     record {
-  fits = omega (
-    arith,
-    there_slot _ _ _ _ _ _ _ c.loop-i.invariant.2 _ _ (sym c.in_rack.ensures
-        ∙ c.if-not-in_rack.false) c.slot_of-j.ensures,
-  );
-}
+      fits = omega (
+        arith,
+        there_slot _ _ _ _ _ _ _ c.loop-i.invariant.2 _ _ (sym c.in_rack.ensures
+            ∙ c.if-not-in_rack.false) c.slot_of-j.ensures,
+      );
+    }
 
 pub bounds-r-j : goal.bounds-r-j
 bounds-r-j c =
@@ -42,13 +41,13 @@ bounds-r-j c =
 pub offset_bounds-r-c : goal.offset_bounds-r-c
 offset_bounds-r-c c =
     record {
-  fits = omega (
-    arith,
-    (there _ _ _ _ _ _ _ c.loop-i.invariant.2 _ _ _ _
-        (sym c.in_rack.ensures
-        ∙ c.if-not-in_rack.false) c.slot_of-j.ensures c.client_of-c.ensures c.place_in-a.ensures).client,
-  );
-}
+      fits = omega (
+        arith,
+        (there _ _ _ _ _ _ _ c.loop-i.invariant.2 _ _ _ _
+            (sym c.in_rack.ensures
+            ∙ c.if-not-in_rack.false) c.slot_of-j.ensures c.client_of-c.ensures c.place_in-a.ensures).client,
+      );
+    }
 
 pub bounds-r-c : goal.bounds-r-c
 bounds-r-c c =
@@ -59,14 +58,14 @@ bounds-r-c c =
 pub offset_bounds-r-a : goal.offset_bounds-r-a
 offset_bounds-r-a c =
     record {
-  fits = omega (
-    arith,
-    (there _ _ _ _ _ _ _ c.loop-i.invariant.2 _ _ _ _
-        (sym c.in_rack.ensures
-        ∙ c.if-not-in_rack.false) c.slot_of-j.ensures c.client_of-c.ensures
-        c.place_in-a.ensures).pair,
-  );
-}
+      fits = omega (
+        arith,
+        (there _ _ _ _ _ _ _ c.loop-i.invariant.2 _ _ _ _
+            (sym c.in_rack.ensures
+            ∙ c.if-not-in_rack.false) c.slot_of-j.ensures c.client_of-c.ensures
+            c.place_in-a.ensures).pair,
+      );
+    }
 
 pub bounds-r-a : goal.bounds-r-a
 bounds-r-a c =
@@ -104,16 +103,16 @@ room_after-room-requires c =
 pub offset_bounds-r-c-in-Go : goal.offset_bounds-r-c-in-Go
 offset_bounds-r-c-in-Go c =
     record {
-  fits = omega (
-    arith,
-    (there _ _ _ _ _ _ _ c.loop-i.invariant.2 _ _ _ _ (sym
-        c.in_rack.ensures
-        ∙ c.if-not-in_rack.false)
-        c.slot_of-j.ensures
-        c.client_of-c.ensures
-        c.place_in-a.ensures).client,
-  );
-}
+      fits = omega (
+        arith,
+        (there _ _ _ _ _ _ _ c.loop-i.invariant.2 _ _ _ _ (sym
+            c.in_rack.ensures
+            ∙ c.if-not-in_rack.false)
+            c.slot_of-j.ensures
+            c.client_of-c.ensures
+            c.place_in-a.ensures).client,
+      );
+    }
 
 pub bounds-r-c-in-Go : goal.bounds-r-c-in-Go
 bounds-r-c-in-Go c =
@@ -128,16 +127,16 @@ bounds-r-c-in-Go c =
 pub offset_bounds-r-a-in-Go : goal.offset_bounds-r-a-in-Go
 offset_bounds-r-a-in-Go c =
     record {
-  fits = omega (
-    arith,
-    (there _ _ _ _ _ _ _ c.loop-i.invariant.2 _ _ _ _
-        (sym c.in_rack.ensures
-        ∙ c.if-not-in_rack.false)
-        c.slot_of-j.ensures
-        c.client_of-c.ensures
-        c.place_in-a.ensures).pair,
-  );
-}
+      fits = omega (
+        arith,
+        (there _ _ _ _ _ _ _ c.loop-i.invariant.2 _ _ _ _
+            (sym c.in_rack.ensures
+            ∙ c.if-not-in_rack.false)
+            c.slot_of-j.ensures
+            c.client_of-c.ensures
+            c.place_in-a.ensures).pair,
+      );
+    }
 
 pub bounds-r-a-in-Go : goal.bounds-r-a-in-Go
 bounds-r-a-in-Go c =
@@ -151,16 +150,16 @@ bounds-r-a-in-Go c =
 pub offset_bounds-r-j-in-Go : goal.offset_bounds-r-j-in-Go
 offset_bounds-r-j-in-Go c =
     record {
-  fits = omega (
-    arith,
-    (there _ _ _ _ _ _ _ c.loop-i.invariant.2 _ _ _ _
-        (sym c.in_rack.ensures
-        ∙ c.if-not-in_rack.false)
-        c.slot_of-j.ensures
-        c.client_of-c.ensures
-        c.place_in-a.ensures).slot,
-  );
-}
+      fits = omega (
+        arith,
+        (there _ _ _ _ _ _ _ c.loop-i.invariant.2 _ _ _ _
+            (sym c.in_rack.ensures
+            ∙ c.if-not-in_rack.false)
+            c.slot_of-j.ensures
+            c.client_of-c.ensures
+            c.place_in-a.ensures).slot,
+      );
+    }
 
 pub bounds-r-j-in-Go : goal.bounds-r-j-in-Go
 bounds-r-j-in-Go c =
@@ -174,16 +173,16 @@ bounds-r-j-in-Go c =
 pub offset_bounds-r-j-in-Go-2 : goal.offset_bounds-r-j-in-Go-2
 offset_bounds-r-j-in-Go-2 c =
     record {
-  fits = omega (
-    arith,
-    (there _ _ _ _ _ _ _ c.loop-i.invariant.2 _ _ _ _
-        (sym c.in_rack.ensures
-        ∙ c.if-not-in_rack.false)
-        c.slot_of-j.ensures
-        c.client_of-c.ensures
-        c.place_in-a.ensures).slot,
-  );
-}
+      fits = omega (
+        arith,
+        (there _ _ _ _ _ _ _ c.loop-i.invariant.2 _ _ _ _
+            (sym c.in_rack.ensures
+            ∙ c.if-not-in_rack.false)
+            c.slot_of-j.ensures
+            c.client_of-c.ensures
+            c.place_in-a.ensures).slot,
+      );
+    }
 
 pub bounds-r-j-in-Go-2 : goal.bounds-r-j-in-Go-2
 bounds-r-j-in-Go-2 c =
@@ -198,30 +197,30 @@ bounds-r-j-in-Go-2 c =
 pub loop-left-init : goal.loop-left-init
 loop-left-init c =
     record {
-  same = refl;
-  send = going_send _ _ _ _ _ _ _
-      c.loop-i.invariant.2 _ _ c.in-Go.p _ _
-      (going_plan _ _ _ _ _ _ _ c.loop-i.invariant.2 _ _ _ _ _ _
-      (sym c.in_rack.ensures ∙ c.if-not-in_rack.false)
-      c.slot_of-j.ensures
-      c.client_of-c.ensures
-      c.place_in-a.ensures
-      c.plan-planned.ensures
-      c.checked-outcome.ensures
-      ∙ c.in-Go.is)
-      c.slot_of-j.ensures
-      c.slot_after.ensures c.mark.ensures;
-}
+      same = refl;
+      send = going_send _ _ _ _ _ _ _
+          c.loop-i.invariant.2 _ _ c.in-Go.p _ _
+          (going_plan _ _ _ _ _ _ _ c.loop-i.invariant.2 _ _ _ _ _ _
+          (sym c.in_rack.ensures ∙ c.if-not-in_rack.false)
+          c.slot_of-j.ensures
+          c.client_of-c.ensures
+          c.place_in-a.ensures
+          c.plan-planned.ensures
+          c.checked-outcome.ensures
+          ∙ c.in-Go.is)
+          c.slot_of-j.ensures
+          c.slot_after.ensures c.mark.ensures;
+    }
 
 pub offset_bounds-r-f : goal.offset_bounds-r-f
 offset_bounds-r-f c =
     record {
-  fits = omega (
-    arith,
-    sending_place _ _ _ _ _ _ _ c.loop-left.invariant.send c.loop-left-test.true _ _
-        (c.take-f.ensures.1 _ c.loop-left.invariant.send.tied),
-  );
-}
+      fits = omega (
+        arith,
+        sending_place _ _ _ _ _ _ _ c.loop-left.invariant.send c.loop-left-test.true _ _
+            (c.take-f.ensures.1 _ c.loop-left.invariant.send.tied),
+      );
+    }
 
 pub bounds-r-f : goal.bounds-r-f
 bounds-r-f c =
@@ -241,23 +240,22 @@ loop-left-preserved c =
 pub overflow_add-i : goal.overflow_add-i
 overflow_add-i c =
     record {
-  fits = omega (
-    arith,
-    c.loop-i-test.true,
-    c.loop-i.invariant.1.1,
-  );
-}
+      fits = omega (
+        arith,
+        c.loop-i-test.true,
+        c.loop-i.invariant.1.1,
+      );
+    }
 
 pub loop-i-smaller-in-Nothing : goal.loop-i-smaller-in-Nothing
 loop-i-smaller-in-Nothing c =
     omega (
-  arith,
-  c.loop-i-test.true,
-)
+      arith,
+      c.loop-i-test.true,
+    )
 
 pub loop-i-preserved-in-Nothing : goal.loop-i-preserved-in-Nothing
-loop-i-preserved-in-Nothing c =
-    (
+loop-i-preserved-in-Nothing c = (
   c.loop-i.invariant.0,
   (
     omega (
@@ -290,23 +288,23 @@ loop-i-preserved-in-Nothing c =
 pub offset_bounds-r-t : goal.offset_bounds-r-t
 offset_bounds-r-t c =
     record {
-  fits = omega (
-    arith,
-    entry_place _ _ _ _ _ _ c.loop-left.invariant
-        c.in-Go.p.note
-        (asked_one _ _ c.in-Asked.is)
-        (going_entry _ _ _ _ _ _ _ c.loop-i.invariant.2 _
-        c.in-Go.p
-        (going_plan _ _ _ _ _ _ _ c.loop-i.invariant.2 _ _ _ _ _ _
-        (sym c.in_rack.ensures
-        ∙ c.if-not-in_rack.false)
-        c.slot_of-j.ensures
-        c.client_of-c.ensures c.place_in-a.ensures
-        c.plan-planned.ensures
-        c.checked-outcome.ensures
-        ∙ c.in-Go.is)),
-  );
-}
+      fits = omega (
+        arith,
+        entry_place _ _ _ _ _ _ c.loop-left.invariant
+            c.in-Go.p.note
+            (asked_one _ _ c.in-Asked.is)
+            (going_entry _ _ _ _ _ _ _ c.loop-i.invariant.2 _
+            c.in-Go.p
+            (going_plan _ _ _ _ _ _ _ c.loop-i.invariant.2 _ _ _ _ _ _
+            (sym c.in_rack.ensures
+            ∙ c.if-not-in_rack.false)
+            c.slot_of-j.ensures
+            c.client_of-c.ensures c.place_in-a.ensures
+            c.plan-planned.ensures
+            c.checked-outcome.ensures
+            ∙ c.in-Go.is)),
+      );
+    }
 
 pub bounds-r-t : goal.bounds-r-t
 bounds-r-t c =
@@ -327,34 +325,33 @@ bounds-r-t c =
 pub overflow_add-r : goal.overflow_add-r
 overflow_add-r c =
     record {
-  fits = omega (
-    arith,
-    entry_place _ _ _ _ _ _ c.loop-left.invariant
-        c.in-Go.p.note
-        (asked_one _ _ c.in-Asked.is)
-        (going_entry _ _ _ _ _ _ _ c.loop-i.invariant.2 _
-        c.in-Go.p
-        (going_plan _ _ _ _ _ _ _ c.loop-i.invariant.2 _ _ _ _ _ _
-        (sym c.in_rack.ensures
-        ∙ c.if-not-in_rack.false)
-        c.slot_of-j.ensures
-        c.client_of-c.ensures c.place_in-a.ensures
-        c.plan-planned.ensures
-        c.checked-outcome.ensures
-        ∙ c.in-Go.is)),
-  );
-}
+      fits = omega (
+        arith,
+        entry_place _ _ _ _ _ _ c.loop-left.invariant
+            c.in-Go.p.note
+            (asked_one _ _ c.in-Asked.is)
+            (going_entry _ _ _ _ _ _ _ c.loop-i.invariant.2 _
+            c.in-Go.p
+            (going_plan _ _ _ _ _ _ _ c.loop-i.invariant.2 _ _ _ _ _ _
+            (sym c.in_rack.ensures
+            ∙ c.if-not-in_rack.false)
+            c.slot_of-j.ensures
+            c.client_of-c.ensures c.place_in-a.ensures
+            c.plan-planned.ensures
+            c.checked-outcome.ensures
+            ∙ c.in-Go.is)),
+      );
+    }
 
 pub loop-i-smaller-in-Asked : goal.loop-i-smaller-in-Asked
 loop-i-smaller-in-Asked c =
     omega (
-  arith,
-  c.loop-i-test.true,
-)
+      arith,
+      c.loop-i-test.true,
+    )
 
 pub loop-i-preserved-in-Asked : goal.loop-i-preserved-in-Asked
-loop-i-preserved-in-Asked c =
-    (
+loop-i-preserved-in-Asked c = (
   c.loop-i.invariant.0,
   (
     omega (
@@ -388,23 +385,23 @@ loop-i-preserved-in-Asked c =
 pub offset_bounds-r-t-in-Ended : goal.offset_bounds-r-t-in-Ended
 offset_bounds-r-t-in-Ended c =
     record {
-  fits = omega (
-    arith,
-    entry_place _ _ _ _ _ _ c.loop-left.invariant
-        c.in-Go.p.note
-        (ended_one _ _ c.in-Ended.is)
-        (going_entry _ _ _ _ _ _ _ c.loop-i.invariant.2 _
-        c.in-Go.p
-        (going_plan _ _ _ _ _ _ _ c.loop-i.invariant.2 _ _ _ _ _ _
-        (sym c.in_rack.ensures
-        ∙ c.if-not-in_rack.false)
-        c.slot_of-j.ensures
-        c.client_of-c.ensures c.place_in-a.ensures
-        c.plan-planned.ensures
-        c.checked-outcome.ensures
-        ∙ c.in-Go.is)),
-  );
-}
+      fits = omega (
+        arith,
+        entry_place _ _ _ _ _ _ c.loop-left.invariant
+            c.in-Go.p.note
+            (ended_one _ _ c.in-Ended.is)
+            (going_entry _ _ _ _ _ _ _ c.loop-i.invariant.2 _
+            c.in-Go.p
+            (going_plan _ _ _ _ _ _ _ c.loop-i.invariant.2 _ _ _ _ _ _
+            (sym c.in_rack.ensures
+            ∙ c.if-not-in_rack.false)
+            c.slot_of-j.ensures
+            c.client_of-c.ensures c.place_in-a.ensures
+            c.plan-planned.ensures
+            c.checked-outcome.ensures
+            ∙ c.in-Go.is)),
+      );
+    }
 
 pub bounds-r-t-in-Ended : goal.bounds-r-t-in-Ended
 bounds-r-t-in-Ended c =
@@ -425,34 +422,33 @@ bounds-r-t-in-Ended c =
 pub overflow_add-r-in-Ended : goal.overflow_add-r-in-Ended
 overflow_add-r-in-Ended c =
     record {
-  fits = omega (
-    arith,
-    entry_place _ _ _ _ _ _ c.loop-left.invariant
-        c.in-Go.p.note
-        (ended_one _ _ c.in-Ended.is)
-        (going_entry _ _ _ _ _ _ _ c.loop-i.invariant.2 _
-        c.in-Go.p
-        (going_plan _ _ _ _ _ _ _ c.loop-i.invariant.2 _ _ _ _ _ _
-        (sym c.in_rack.ensures
-        ∙ c.if-not-in_rack.false)
-        c.slot_of-j.ensures
-        c.client_of-c.ensures c.place_in-a.ensures
-        c.plan-planned.ensures
-        c.checked-outcome.ensures
-        ∙ c.in-Go.is)),
-  );
-}
+      fits = omega (
+        arith,
+        entry_place _ _ _ _ _ _ c.loop-left.invariant
+            c.in-Go.p.note
+            (ended_one _ _ c.in-Ended.is)
+            (going_entry _ _ _ _ _ _ _ c.loop-i.invariant.2 _
+            c.in-Go.p
+            (going_plan _ _ _ _ _ _ _ c.loop-i.invariant.2 _ _ _ _ _ _
+            (sym c.in_rack.ensures
+            ∙ c.if-not-in_rack.false)
+            c.slot_of-j.ensures
+            c.client_of-c.ensures c.place_in-a.ensures
+            c.plan-planned.ensures
+            c.checked-outcome.ensures
+            ∙ c.in-Go.is)),
+      );
+    }
 
 pub loop-i-smaller : goal.loop-i-smaller
 loop-i-smaller c =
     omega (
-  arith,
-  c.loop-i-test.true,
-)
+      arith,
+      c.loop-i-test.true,
+    )
 
 pub loop-i-preserved : goal.loop-i-preserved
-loop-i-preserved c =
-    (
+loop-i-preserved c = (
   c.loop-i.invariant.0,
   (
     omega (

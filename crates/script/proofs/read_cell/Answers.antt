@@ -16,7 +16,7 @@ pub returns-else-kind-eq0 : goal.returns-else-kind-eq0
 unfolding cell_at and_then
 returns-else-kind-eq0 c =
     simp (
-  sym c.read_number.ensures
-      ∙ c.in-Is.is,
-  ne_eqb _ _ c.if-kind-eq0.false,
-) c.read_last.ensures
+      sym c.read_number.ensures
+          ∙ c.in-Is.is,
+      ne_eqb _ _ c.if-kind-eq0.false,
+    ) c.read_last.ensures

@@ -16,7 +16,7 @@ pub returns-else-kind-gt8 : goal.returns-else-kind-gt8
 unfolding event_at and_then
 returns-else-kind-gt8 c =
     simp (
-  sym c.read_number.ensures
-      ∙ c.in-Is.is,
-  le-ltb _ _ c.if-kind-gt8.false,
-) c.read_fields.ensures
+      sym c.read_number.ensures
+          ∙ c.in-Is.is,
+      le-ltb _ _ c.if-kind-gt8.false,
+    ) c.read_fields.ensures

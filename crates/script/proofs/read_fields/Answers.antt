@@ -16,7 +16,7 @@ pub returns-else-kind-gt1 : goal.returns-else-kind-gt1
 unfolding fields_at and_then
 returns-else-kind-gt1 c =
     simp (
-  sym c.read_number.ensures
-      ∙ c.in-Is.is,
-  le-ltb _ _ c.if-kind-gt1.false,
-) c.read_cell.ensures
+      sym c.read_number.ensures
+          ∙ c.in-Is.is,
+      le-ltb _ _ c.if-kind-gt1.false,
+    ) c.read_cell.ensures

@@ -7,8 +7,7 @@ pub loop-i-init : goal.loop-i-init
 loop-i-init c = (search rules, each_none _)
 
 pub loop-i-preserved : goal.loop-i-preserved
-loop-i-preserved c =
-    (
+loop-i-preserved c = (
   search rules,
   each_next _ _ c.loop-i.invariant.1
       (rw (← c.party_at.ensures) c.put_client-next.ensures),

@@ -7,8 +7,7 @@ pub loop-i-init : goal.loop-i-init
 loop-i-init c = (search rules, no_bytes c.args.lines)
 
 pub loop-i-preserved : goal.loop-i-preserved
-loop-i-preserved c =
-    (
+loop-i-preserved c = (
   search rules,
   next_bytes c.args.lines _ _
       (omega (arith, c.loop-i-test.true, c.entries_in-n.ensures))

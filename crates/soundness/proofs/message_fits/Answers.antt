@@ -19,8 +19,8 @@ pub returns : goal.returns
 unfolding message_fits
 returns c =
     rw (
-  c.body_fits.ensures,
-  lt-ltb _ _ c.if-settings-client.false,
-  lt-ltb _ _ c.if-settings-replica.false,
-  lt-ltb _ _ c.if-settings-cell.false,
-)
+      c.body_fits.ensures,
+      lt-ltb _ _ c.if-settings-client.false,
+      lt-ltb _ _ c.if-settings-replica.false,
+      lt-ltb _ _ c.if-settings-cell.false,
+    )

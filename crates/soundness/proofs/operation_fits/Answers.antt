@@ -15,7 +15,7 @@ pub returns : goal.returns
 unfolding operation_fits
 returns c =
     rw (
-  c.phase_fits.ensures,
-  lt-ltb _ _ c.if-settings-cell.false,
-  sym c.within.ensures ∙ c.if-not-within.false,
-)
+      c.phase_fits.ensures,
+      lt-ltb _ _ c.if-settings-cell.false,
+      sym c.within.ensures ∙ c.if-not-within.false,
+    )

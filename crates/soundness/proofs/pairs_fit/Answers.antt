@@ -14,8 +14,7 @@ returns-then-not-replica_fits c =
     ∙ c.if-not-replica_fits.true))
 
 pub loop-k-preserved : goal.loop-k-preserved
-loop-k-preserved c =
-    (
+loop-k-preserved c = (
   search rules,
   all_next c.loop-k.k _ c.loop-k.invariant.1 (sym c.replica_fits.ensures
       ∙ c.if-not-replica_fits.false),

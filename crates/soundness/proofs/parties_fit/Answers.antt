@@ -14,8 +14,7 @@ returns-then-not-work_fits c =
     ∙ c.if-not-work_fits.true))
 
 pub loop-i-preserved : goal.loop-i-preserved
-loop-i-preserved c =
-    (
+loop-i-preserved c = (
   search rules,
   all_next c.loop-i.i _ c.loop-i.invariant.1 (sym c.work_fits.ensures
       ∙ c.if-not-work_fits.false),

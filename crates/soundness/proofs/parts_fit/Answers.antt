@@ -15,11 +15,11 @@ pub returns-then-not-pairs_fit : goal.returns-then-not-pairs_fit
 unfolding sound_of
 returns-then-not-pairs_fit c =
     rw (
-  c.requires,
-  sym c.wire_fits.ensures
-      ∙ c.if-not-wire_fits.false,
-  sym c.pairs_fit.ensures ∙ c.if-not-pairs_fit.true,
-)
+      c.requires,
+      sym c.wire_fits.ensures
+          ∙ c.if-not-wire_fits.false,
+      sym c.pairs_fit.ensures ∙ c.if-not-pairs_fit.true,
+    )
 
 pub parties_fit-requires : goal.parties_fit-requires
 parties_fit-requires c = (sized c.args.rack.settings c.requires).clients
@@ -28,23 +28,23 @@ pub returns-then-not-parties_fit : goal.returns-then-not-parties_fit
 unfolding sound_of
 returns-then-not-parties_fit c =
     rw (
-  c.requires,
-  sym c.wire_fits.ensures
-      ∙ c.if-not-wire_fits.false,
-  sym c.pairs_fit.ensures
-      ∙ c.if-not-pairs_fit.false,
-  sym c.parties_fit.ensures ∙ c.if-not-parties_fit.true,
-)
+      c.requires,
+      sym c.wire_fits.ensures
+          ∙ c.if-not-wire_fits.false,
+      sym c.pairs_fit.ensures
+          ∙ c.if-not-pairs_fit.false,
+      sym c.parties_fit.ensures ∙ c.if-not-parties_fit.true,
+    )
 
 pub returns : goal.returns
 unfolding sound_of
 returns c =
     rw (
-  c.record_fits.ensures,
-  c.requires,
-  sym c.wire_fits.ensures
-      ∙ c.if-not-wire_fits.false,
-  sym c.pairs_fit.ensures
-      ∙ c.if-not-pairs_fit.false,
-  sym c.parties_fit.ensures ∙ c.if-not-parties_fit.false,
-)
+      c.record_fits.ensures,
+      c.requires,
+      sym c.wire_fits.ensures
+          ∙ c.if-not-wire_fits.false,
+      sym c.pairs_fit.ensures
+          ∙ c.if-not-pairs_fit.false,
+      sym c.parties_fit.ensures ∙ c.if-not-parties_fit.false,
+    )

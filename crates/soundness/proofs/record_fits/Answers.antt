@@ -10,10 +10,10 @@ returns-then-count-gt-ENTRIES c = record_over _ c.if-count-gt-ENTRIES.true
 pub overflow_add-result : goal.overflow_add-result
 overflow_add-result c =
     omega (
-  arith,
-  c.owed_by_all.ensures,
-  owed_most c.args.rack.settings.clients c.args.rack.parties,
-)
+      arith,
+      c.owed_by_all.ensures,
+      owed_most c.args.rack.settings.clients c.args.rack.parties,
+    )
 
 pub returns : goal.returns
 returns c = record_is c.args.rack _ c.owed_by_all.ensures

@@ -13,8 +13,7 @@ returns-then-not-pair_fits c =
     ∙ c.if-not-pair_fits.true))
 
 pub loop-x-preserved : goal.loop-x-preserved
-loop-x-preserved c =
-    (
+loop-x-preserved c = (
   search rules,
   all_next c.loop-x.x _ c.loop-x.invariant.1 (sym c.pair_fits.ensures
       ∙ c.if-not-pair_fits.false),

@@ -15,8 +15,7 @@ returns-then-not-held_fits c =
     ∙ c.if-not-held_fits.true))
 
 pub loop-i-preserved : goal.loop-i-preserved
-loop-i-preserved c =
-    (
+loop-i-preserved c = (
   search rules,
   all_next c.loop-i.i _ c.loop-i.invariant.1 (sym c.held_fits.ensures
       ∙ c.if-not-held_fits.false),

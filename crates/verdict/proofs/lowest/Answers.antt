@@ -7,14 +7,13 @@ loop-c-init c = (omega arith, λ d l. absurd (omega arith))
 pub returns-then-bad-wide_cell-ne0 : goal.returns-then-bad-wide_cell-ne0
 returns-then-bad-wide_cell-ne0 c =
     record {
-  within = omega arith;
-  below = c.loop-c.invariant.1;
-  marked = λ b z. c.if-bad-wide_cell-ne0.true (ap (λ (k : ℕ). get_or c.args.bad.now k 0) c.wide_cell.ensures.0 ∙ z);
-}
+      within = omega arith;
+      below = c.loop-c.invariant.1;
+      marked = λ b z. c.if-bad-wide_cell-ne0.true (ap (λ (k : ℕ). get_or c.args.bad.now k 0) c.wide_cell.ensures.0 ∙ z);
+    }
 
 pub loop-c-preserved : goal.loop-c-preserved
-loop-c-preserved c =
-    (
+loop-c-preserved c = (
   omega arith,
   below_more _ _ c.loop-c.invariant.1
       (ap (λ (k : ℕ). get_or c.args.bad.now k 0) (sym c.wide_cell.ensures.0) ∙ c.if-bad-wide_cell-ne0.false),

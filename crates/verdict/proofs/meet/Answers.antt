@@ -2,8 +2,7 @@
 use Rattle.verdict.proofs.meet.Goals as goal
 
 pub returns : goal.returns
-returns c =
-    (
+returns c = (
   rw (c.greater.ensures, c.wide_cell-c.ensures.0),
   rw (c.mark_of.ensures, c.wide_cell-c.ensures.0),
 )

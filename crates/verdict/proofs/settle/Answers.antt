@@ -4,16 +4,14 @@ use Rattle.verdict.specs.laws.Judging.{settles}
 use Rattle.verdict.proofs.settle.Goals as goal
 
 pub take_ends-requires : goal.take_ends-requires
-take_ends-requires c =
-    (
+take_ends-requires c = (
   c.requires,
   tally_none_yet _ _ _ c.requires.fit.few
       c.own_numbers.ensures,
 )
 
 pub order-requires : goal.order-requires
-order-requires c =
-    (
+order-requires c = (
   scatterable _ _ _ _ _ _ _ _ c.requires
       c.take_ends.ensures,
   c.take_ends.ensures.zero_long,

@@ -8,10 +8,10 @@ loop-p-init c = (omega arith, c.requires.1)
 pub take_entry-requires : goal.take_entry-requires
 take_entry-requires c =
     record {
-  ready = c.requires.0;
-  below = c.loop-p-test.true;
-  tally = c.loop-p.invariant.1;
-}
+      ready = c.requires.0;
+      below = c.loop-p-test.true;
+      tally = c.loop-p.invariant.1;
+    }
 
 pub loop-p-preserved : goal.loop-p-preserved
 loop-p-preserved c = (omega arith, c.take_entry.ensures)

@@ -9,8 +9,7 @@ pub bounds-kinds-p : goal.bounds-kinds-p
 bounds-kinds-p c = small _ _ _ _ _ _ _ _ _ c.requires
 
 pub take_read-requires : goal.take_read-requires
-take_read-requires c =
-    (
+take_read-requires c = (
   c.if-kinds-p-eq2.true,
   lowered_read _ _ _ _ _ _ _ _ _ c.requires _
       c.take_done.ensures c.if-kinds-p-eq2.true,

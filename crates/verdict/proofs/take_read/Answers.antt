@@ -16,15 +16,13 @@ pub find-requires : goal.find-requires
 find-requires c = c.requires.1.ready.table
 
 pub mark-requires : goal.mark-requires
-mark-requires c =
-    (
+mark-requires c = (
   small _ _ _ _ _ _ _ _ _ c.requires.1,
   small_cell _ _ _ _ _ _ _ _ _ c.requires.1,
 )
 
 pub join-requires : goal.join-requires
-join-requires c =
-    (
+join-requires c = (
   small _ _ _ _ _ _ _ _ _ c.requires.1,
   omega (
     arith,
@@ -34,8 +32,7 @@ join-requires c =
 )
 
 pub mark-requires-then-p-w : goal.mark-requires-then-p-w
-mark-requires-then-p-w c =
-    (
+mark-requires-then-p-w c = (
   small _ _ _ _ _ _ _ _ _ c.requires.1,
   small_cell _ _ _ _ _ _ _ _ _ c.requires.1,
 )

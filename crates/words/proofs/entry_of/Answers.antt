@@ -16,11 +16,11 @@ pub returns-then-kind-eq2 : goal.returns-then-kind-eq2
 unfolding entry_of
 returns-then-kind-eq2 c =
     rw (
-  signed_of_bits c.signed-v.result _ (search rules) c.signed-v.ensures,
-  ne_eqb _ _ c.if-kind-eq0.false,
-  ne_eqb _ _ c.if-kind-eq1.false,
-  eq-eqb _ _ c.if-kind-eq2.true,
-)
+      signed_of_bits c.signed-v.result _ (search rules) c.signed-v.ensures,
+      ne_eqb _ _ c.if-kind-eq0.false,
+      ne_eqb _ _ c.if-kind-eq1.false,
+      eq-eqb _ _ c.if-kind-eq2.true,
+    )
 
 pub returns : goal.returns
 unfolding entry_of

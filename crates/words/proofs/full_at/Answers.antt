@@ -6,9 +6,9 @@ pub returns : goal.returns
 unfolding full_in
 returns c =
     rw (
-  c.body_of-body.ensures,
-  c.pair_at-pair.ensures,
-  c.byte_at-cell.ensures,
-  c.byte_at-replica.ensures,
-  c.byte_at-client.ensures,
-)
+      c.body_of-body.ensures,
+      c.pair_at-pair.ensures,
+      c.byte_at-cell.ensures,
+      c.byte_at-replica.ensures,
+      c.byte_at-client.ensures,
+    )

@@ -15,18 +15,18 @@ pub returns-then-message_known : goal.returns-then-message_known
 unfolding held_of
 returns-then-message_known c =
     rw (
-  c.full_at.ensures,
-  ne_eqb _ _ c.if-words-at-eq0.false,
-  sym c.message_known.ensures
-      ∙ c.if-message_known.true,
-)
+      c.full_at.ensures,
+      ne_eqb _ _ c.if-words-at-eq0.false,
+      sym c.message_known.ensures
+          ∙ c.if-message_known.true,
+    )
 
 pub returns : goal.returns
 unfolding held_of
 returns c =
     rw (
-  c.stray_held.ensures,
-  ne_eqb _ _ c.if-words-at-eq0.false,
-  sym c.message_known.ensures
-      ∙ c.if-message_known.false,
-)
+      c.stray_held.ensures,
+      ne_eqb _ _ c.if-words-at-eq0.false,
+      sym c.message_known.ensures
+          ∙ c.if-message_known.false,
+    )

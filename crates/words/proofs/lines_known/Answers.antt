@@ -15,8 +15,7 @@ returns-then-not-entry_known c =
 
 pub loop-i-preserved : goal.loop-i-preserved
 unfolding line_known
-loop-i-preserved c =
-    (
+loop-i-preserved c = (
   search rules,
   all_next c.loop-i.i _ c.loop-i.invariant.1
       (sym c.entry_known.ensures ∙ c.if-not-entry_known.false),

@@ -6,7 +6,7 @@ pub returns : goal.returns
 unfolding operation_in
 returns c =
     rw (
-  c.operation_of.ensures,
-  c.pair_at-pair.ensures,
-  c.goal_of-goal.ensures,
-)
+      c.operation_of.ensures,
+      c.pair_at-pair.ensures,
+      c.goal_of-goal.ensures,
+    )

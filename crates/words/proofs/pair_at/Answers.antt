@@ -7,6 +7,6 @@ pub returns : goal.returns
 unfolding pair_in
 returns c =
     rw (
-  signed_of_bits c.signed-value.result _ (c.type_inv.words _).fits c.signed-value.ensures,
-  c.byte_at-rank.ensures,
-)
+      signed_of_bits c.signed-value.result _ (c.type_inv.words _).fits c.signed-value.ensures,
+      c.byte_at-rank.ensures,
+    )

@@ -20,18 +20,18 @@ pub returns-then-phase-eq0 : goal.returns-then-phase-eq0
 unfolding party_known
 returns-then-phase-eq0 c =
     rw (
-  lt-ltb _ _ (fewer c.if-stopped-gt1.false),
-  lt-ltb _ _ (fewer c.if-op-gt-LAST_OP.false),
-  lt-ltb _ _ (fewer c.if-phase-gt2.false),
-  eq-eqb _ _ c.if-phase-eq0.true,
-)
+      lt-ltb _ _ (fewer c.if-stopped-gt1.false),
+      lt-ltb _ _ (fewer c.if-op-gt-LAST_OP.false),
+      lt-ltb _ _ (fewer c.if-phase-gt2.false),
+      eq-eqb _ _ c.if-phase-eq0.true,
+    )
 
 pub returns : goal.returns
 unfolding party_known
 returns c =
     rw (
-  lt-ltb _ _ (fewer c.if-stopped-gt1.false),
-  lt-ltb _ _ (fewer c.if-op-gt-LAST_OP.false),
-  lt-ltb _ _ (fewer c.if-phase-gt2.false),
-  ne_eqb _ _ c.if-phase-eq0.false,
-)
+      lt-ltb _ _ (fewer c.if-stopped-gt1.false),
+      lt-ltb _ _ (fewer c.if-op-gt-LAST_OP.false),
+      lt-ltb _ _ (fewer c.if-phase-gt2.false),
+      ne_eqb _ _ c.if-phase-eq0.false,
+    )

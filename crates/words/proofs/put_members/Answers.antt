@@ -8,8 +8,7 @@ pub put_parties-requires : goal.put_parties-requires
 put_parties-requires c = (c.requires.0, (sound_of_lem _ c.requires.1).settings.clients)
 
 pub put_pairs-requires : goal.put_pairs-requires
-put_pairs-requires c =
-    (
+put_pairs-requires c = (
   search rules,
   omega (arith, (sound_of_lem _ c.requires.1).settings.replicas),
 )

@@ -12,7 +12,7 @@ pub returns-in-Write : goal.returns-in-Write
 unfolding open_words
 returns-in-Write c =
     simp (
-  c.in-Write.is,
-  alternating_of_bits c.in-Write.v c.alternating.result
-      (search rules) c.alternating.ensures,
-) c.put-in-Write.ensures
+      c.in-Write.is,
+      alternating_of_bits c.in-Write.v c.alternating.result
+          (search rules) c.alternating.ensures,
+    ) c.put-in-Write.ensures

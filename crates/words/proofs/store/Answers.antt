@@ -9,8 +9,7 @@ pub put_head-requires : goal.put_head-requires
 put_head-requires c = (c.requires.0, omega (arith, (sound_of_lem _ c.requires.1).entries))
 
 pub put_lines-requires : goal.put_lines-requires
-put_lines-requires c =
-    (
+put_lines-requires c = (
   search rules,
   omega (arith, (sound_of_lem _ c.requires.1).entries),
 )

@@ -12,11 +12,11 @@ overflow_add-two c =
 pub returns-then-kind-eq3 : goal.returns-then-kind-eq3
 returns-then-kind-eq3 c =
     omega (
-  arith,
-  done_long (by_kind _ _ c.row_of-row.ensures) c.if-kind-eq3.true,
-  c.number_length.ensures,
-  c.number_length-2.ensures,
-)
+      arith,
+      done_long (by_kind _ _ c.row_of-row.ensures) c.if-kind-eq3.true,
+      c.number_length.ensures,
+      c.number_length-2.ensures,
+    )
 
 pub overflow_add-result : goal.overflow_add-result
 overflow_add-result c =
@@ -32,12 +32,12 @@ overflow_add-result c =
 pub returns-then-kind-eq2 : goal.returns-then-kind-eq2
 returns-then-kind-eq2 c =
     omega (
-  arith,
-  told_long (by_kind _ _ c.row_of-row.ensures) c.if-kind-eq2.true,
-  c.number_length.ensures,
-  c.number_length-2.ensures,
-  c.number_length-then-kind-eq2.ensures,
-)
+      arith,
+      told_long (by_kind _ _ c.row_of-row.ensures) c.if-kind-eq2.true,
+      c.number_length.ensures,
+      c.number_length-2.ensures,
+      c.number_length-then-kind-eq2.ensures,
+    )
 
 pub overflow_add-three : goal.overflow_add-three
 overflow_add-three c =
@@ -53,12 +53,12 @@ overflow_add-three c =
 pub returns-then-kind-eq0 : goal.returns-then-kind-eq0
 returns-then-kind-eq0 c =
     omega (
-  arith,
-  read_long (by_kind _ _ c.row_of-row.ensures) c.if-kind-eq0.true,
-  c.number_length.ensures,
-  c.number_length-2.ensures,
-  c.number_length-3.ensures,
-)
+      arith,
+      read_long (by_kind _ _ c.row_of-row.ensures) c.if-kind-eq0.true,
+      c.number_length.ensures,
+      c.number_length-2.ensures,
+      c.number_length-3.ensures,
+    )
 
 pub overflow_add-result-2 : goal.overflow_add-result-2
 overflow_add-result-2 c =
@@ -76,11 +76,11 @@ overflow_add-result-2 c =
 pub returns : goal.returns
 returns c =
     omega (
-  arith,
-  write_long (by_kind _ _ c.row_of-row.ensures) c.if-kind-eq3.false
-      c.if-kind-eq2.false c.if-kind-eq0.false,
-  c.number_length.ensures,
-  c.number_length-2.ensures,
-  c.number_length-3.ensures,
-  c.number_length-4.ensures,
-)
+      arith,
+      write_long (by_kind _ _ c.row_of-row.ensures) c.if-kind-eq3.false
+          c.if-kind-eq2.false c.if-kind-eq0.false,
+      c.number_length.ensures,
+      c.number_length-2.ensures,
+      c.number_length-3.ensures,
+      c.number_length-4.ensures,
+    )

@@ -45,12 +45,12 @@ returns-then-k-ne0 c =
 pub overflow_add-sum : goal.overflow_add-sum
 overflow_add-sum c =
     omega (
-  arith,
-  c.entry_length-sum.ensures,
-  entry_most c.in-At.e,
-  c.loop-n.invariant.1,
-  c.loop-n.invariant.0.limit,
-)
+      arith,
+      c.entry_length-sum.ensures,
+      entry_most c.in-At.e,
+      c.loop-n.invariant.1,
+      c.loop-n.invariant.0.limit,
+    )
 
 pub overflow_add-n : goal.overflow_add-n
 overflow_add-n c = omega (arith, c.loop-n.invariant.0.limit)
@@ -58,14 +58,13 @@ overflow_add-n c = omega (arith, c.loop-n.invariant.0.limit)
 pub loop-n-smaller : goal.loop-n-smaller
 loop-n-smaller c =
     omega (
-  arith,
-  c.loop-n.invariant.0.limit,
-  c.if-n-eq-ENTRY_LIMIT.false,
-)
+      arith,
+      c.loop-n.invariant.0.limit,
+      c.if-n-eq-ENTRY_LIMIT.false,
+    )
 
 pub loop-n-preserved : goal.loop-n-preserved
-loop-n-preserved c =
-    (
+loop-n-preserved c = (
   measures-on _ _ _ _ _ _ _ _ c.loop-n.invariant.0
       c.loop-n-test.true c.if-n-eq-ENTRY_LIMIT.false
       (sym c.row_at.ensures

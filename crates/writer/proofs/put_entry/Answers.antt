@@ -10,11 +10,11 @@ put_number-a-requires c = omega (arith, (by_kind _ _ c.row_of-row.ensures).both)
 pub put_number-b-requires : goal.put_number-b-requires
 put_number-b-requires c =
     omega (
-  arith,
-  (by_kind _ _ c.row_of-row.ensures).both,
-  c.put_number-a.ensures.place,
-  wrote_length c.put_number-a.ensures,
-)
+      arith,
+      (by_kind _ _ c.row_of-row.ensures).both,
+      c.put_number-a.ensures.place,
+      wrote_length c.put_number-a.ensures,
+    )
 
 pub returns-then-kind-eq3 : goal.returns-then-kind-eq3
 returns-then-kind-eq3 c =
@@ -24,13 +24,13 @@ returns-then-kind-eq3 c =
 pub put_number-requires : goal.put_number-requires
 put_number-requires c =
     omega (
-  arith,
-  told_long (by_kind _ _ c.row_of-row.ensures) c.if-kind-eq2.true,
-  c.put_number-a.ensures.place,
-  wrote_length c.put_number-a.ensures,
-  c.put_number-b.ensures.place,
-  wrote_length c.put_number-b.ensures,
-)
+      arith,
+      told_long (by_kind _ _ c.row_of-row.ensures) c.if-kind-eq2.true,
+      c.put_number-a.ensures.place,
+      wrote_length c.put_number-a.ensures,
+      c.put_number-b.ensures.place,
+      wrote_length c.put_number-b.ensures,
+    )
 
 pub returns-then-kind-eq2 : goal.returns-then-kind-eq2
 returns-then-kind-eq2 c =
@@ -42,14 +42,14 @@ returns-then-kind-eq2 c =
 pub put_number-c-requires : goal.put_number-c-requires
 put_number-c-requires c =
     omega (
-  arith,
-  (by_kind _ _ c.row_of-row.ensures).third c.if-kind-eq3.false
-      c.if-kind-eq2.false,
-  c.put_number-a.ensures.place,
-  wrote_length c.put_number-a.ensures,
-  c.put_number-b.ensures.place,
-  wrote_length c.put_number-b.ensures,
-)
+      arith,
+      (by_kind _ _ c.row_of-row.ensures).third c.if-kind-eq3.false
+          c.if-kind-eq2.false,
+      c.put_number-a.ensures.place,
+      wrote_length c.put_number-a.ensures,
+      c.put_number-b.ensures.place,
+      wrote_length c.put_number-b.ensures,
+    )
 
 pub returns-then-kind-eq0 : goal.returns-then-kind-eq0
 returns-then-kind-eq0 c =
@@ -61,17 +61,17 @@ returns-then-kind-eq0 c =
 pub put_number-requires-2 : goal.put_number-requires-2
 put_number-requires-2 c =
     omega (
-  arith,
-  write_long (by_kind _ _
-      c.row_of-row.ensures)
-      c.if-kind-eq3.false c.if-kind-eq2.false c.if-kind-eq0.false,
-  c.put_number-a.ensures.place,
-  wrote_length c.put_number-a.ensures,
-  c.put_number-b.ensures.place,
-  wrote_length c.put_number-b.ensures,
-  c.put_number-c.ensures.place,
-  wrote_length c.put_number-c.ensures,
-)
+      arith,
+      write_long (by_kind _ _
+          c.row_of-row.ensures)
+          c.if-kind-eq3.false c.if-kind-eq2.false c.if-kind-eq0.false,
+      c.put_number-a.ensures.place,
+      wrote_length c.put_number-a.ensures,
+      c.put_number-b.ensures.place,
+      wrote_length c.put_number-b.ensures,
+      c.put_number-c.ensures.place,
+      wrote_length c.put_number-c.ensures,
+    )
 
 pub returns : goal.returns
 returns c =

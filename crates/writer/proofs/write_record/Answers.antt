@@ -22,7 +22,7 @@ returns-in-Refused c =
 pub returns-else-bytes-n : goal.returns-else-bytes-n
 returns-else-bytes-n c =
     record {
-  answers = sym (write_all _ _ _ (sym c.measure.ensures
-      ∙ c.in-All.is) (omega arith));
-  leaves = c.put_rows.ensures;
-}
+      answers = sym (write_all _ _ _ (sym c.measure.ensures
+          ∙ c.in-All.is) (omega arith));
+      leaves = c.put_rows.ensures;
+    }

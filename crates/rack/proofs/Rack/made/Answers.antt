@@ -7,23 +7,23 @@ use Rattle.rack.proofs.Rack.made.Goals as goal
 pub overflow_cast-replicas : goal.overflow_cast-replicas
 overflow_cast-replicas c =
     record {
-  fits = (bytes c.args.replicas c.args.clients c.args.cells (sym c.sizes_in.ensures
-      ∙ c.if-sizes_in.true)).first;
-}
+      fits = (bytes c.args.replicas c.args.clients c.args.cells (sym c.sizes_in.ensures
+          ∙ c.if-sizes_in.true)).first;
+    }
 
 pub overflow_cast-clients : goal.overflow_cast-clients
 overflow_cast-clients c =
     record {
-  fits = (bytes c.args.replicas c.args.clients c.args.cells (sym c.sizes_in.ensures
-      ∙ c.if-sizes_in.true)).second;
-}
+      fits = (bytes c.args.replicas c.args.clients c.args.cells (sym c.sizes_in.ensures
+          ∙ c.if-sizes_in.true)).second;
+    }
 
 pub overflow_cast-cells : goal.overflow_cast-cells
 overflow_cast-cells c =
     record {
-  fits = (bytes c.args.replicas c.args.clients c.args.cells (sym c.sizes_in.ensures
-      ∙ c.if-sizes_in.true)).third;
-}
+      fits = (bytes c.args.replicas c.args.clients c.args.cells (sym c.sizes_in.ensures
+          ∙ c.if-sizes_in.true)).third;
+    }
 
 pub returns-then-sizes_in : goal.returns-then-sizes_in
 unfolding made_of

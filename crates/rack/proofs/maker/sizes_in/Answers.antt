@@ -24,20 +24,20 @@ pub returns-then-cells-lt1 : goal.returns-then-cells-lt1
 unfolding settings_fit
 returns-then-cells-lt1 c =
     rw (
-  le-leb _ _ c.if-replicas-lt1.false,
-  le-leb _ _ c.if-replicas-gt-MOST_REPLICAS.false,
-  le-leb _ _ c.if-clients-lt1.false,
-  le-leb _ _ c.if-clients-gt-MOST_CLIENTS.false,
-  lt-leb _ _ c.if-cells-lt1.true,
-)
+      le-leb _ _ c.if-replicas-lt1.false,
+      le-leb _ _ c.if-replicas-gt-MOST_REPLICAS.false,
+      le-leb _ _ c.if-clients-lt1.false,
+      le-leb _ _ c.if-clients-gt-MOST_CLIENTS.false,
+      lt-leb _ _ c.if-cells-lt1.true,
+    )
 
 pub returns : goal.returns
 unfolding settings_fit
 returns c =
     rw (
-  le-leb _ _ c.if-replicas-lt1.false,
-  le-leb _ _ c.if-replicas-gt-MOST_REPLICAS.false,
-  le-leb _ _ c.if-clients-lt1.false,
-  le-leb _ _ c.if-clients-gt-MOST_CLIENTS.false,
-  le-leb _ _ c.if-cells-lt1.false,
-)
+      le-leb _ _ c.if-replicas-lt1.false,
+      le-leb _ _ c.if-replicas-gt-MOST_REPLICAS.false,
+      le-leb _ _ c.if-clients-lt1.false,
+      le-leb _ _ c.if-clients-gt-MOST_CLIENTS.false,
+      le-leb _ _ c.if-cells-lt1.false,
+    )
