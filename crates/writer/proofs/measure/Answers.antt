@@ -12,11 +12,11 @@ use Rattle.rows.specs.Rows.{rows_held}
 use Rattle.writer.proofs.measure.Goals as goal
 
 -- a row more is counted
-measures-on : (rows : List ℕ) (n sum : ℕ) (st st' : Standing) (e : Entry) (next long : ℕ)
+measures_on : (rows : List ℕ) (n sum : ℕ) (st st' : Standing) (e : Entry) (next long : ℕ)
     → Counting (λ i. leb (i + 4) (length rows)) (row_at rows) (λ f. length (entry_bytes f)) (rows_held rows) (4 * n) n sum st
     → n < length rows / 4 → (n ≡ entry_limit → ⊥) → row_at rows (4 * n) ≡ At e next → fault_after st e ≡ 0 → st' ≡ standing_after st e → long ≡ length (entry_bytes e)
     → Counting (λ i. leb (i + 4) (length rows)) (row_at rows) (λ f. length (entry_bytes f)) (rows_held rows) (4 * (n + 1)) (n + 1) (sum + long) st'
-measures-on rows n sum st st' e next long k l m f z p q =
+measures_on rows n sum st st' e next long k l m f z p q =
     let place : next ≡ 4 * (n + 1) = row_next rows (4 * n) e next f ∙ omega arith in
     rw (← place, p, q) (counts_on (λ i. leb (i + 4) (length rows)) (row_at rows) (λ f. length (entry_bytes f)) (rows_held rows) (4 * n) n sum st k e next (more_rows rows n l) m f z)
 
@@ -65,7 +65,7 @@ loop-n-smaller c =
 
 pub loop-n-preserved : goal.loop-n-preserved
 loop-n-preserved c = (
-  measures-on _ _ _ _ _ _ _ _ c.loop-n.invariant.0
+  measures_on _ _ _ _ _ _ _ _ c.loop-n.invariant.0
       c.loop-n-test.true c.if-n-eq-ENTRY_LIMIT.false
       (sym c.row_at.ensures
       ∙ c.in-At.is) (sym c.fault-k.ensures
