@@ -1,12 +1,11 @@
-use Rattle.std.proofs.Common.{◌≡◌, ℕ, List, length, true, false, refl, sym, ap, ◌∙◌}
+use Rattle.std.proofs.Common.{◌≡◌, ℕ, List, length, true, refl, sym, ◌∙◌}
 use Rattle.record.specs.declared.Found.{Found}
-use Rattle.record.specs.declared.Answer.{Answer}
-use Rattle.record.specs.Record.{bytes_held, survey_of}
 use Rattle.reader.specs.declared.ReadingHead.{ReadingHead}
 use Rattle.reader.specs.declared.Progress.{Progress}
 use Rattle.reader.specs.Head.{under_head, head_after}
-use Rattle.reader.specs.laws.Survey.{begun, goes_on, after_found, answer_of}
-use Rattle.reader.specs.laws.SurveySteps.{Surveying, Turned, survey_begins, survey_turns, survey_ends}
+use Rattle.reader.specs.laws.Survey.{goes_on, after_found}
+use Rattle.reader.specs.laws.SurveySteps.{Surveying, Turned, survey_begins, survey_ends}
+use Rattle.reader.proofs.theorems.SurveySteps.{survey_turns}
 use Rattle.reader.proofs.survey.Goals as goal
 
 -- the head that stands over s took an entry that was due: it stands over s at the next place, and fewer turns may follow

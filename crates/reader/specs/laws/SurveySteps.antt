@@ -1,20 +1,18 @@
 -- How a survey goes on, entry by entry: the loop of `survey` leans on these laws alone.
-use Rattle.std.specs.Prelude.{ℕ, ◌+◌, ◌-◌, ◌<◌, ◌≤◌, ◌≡◌, Bool, ◌&&◌, cond, List, length, ltb, leb}
-use Rattle.std.proofs.Math.Path.{refl, subst}
+use Rattle.std.specs.Prelude.{ℕ, ◌+◌, ◌-◌, ◌<◌, ◌≤◌, ◌≡◌, Bool, ◌&&◌, cond, List, length, ltb}
+use Rattle.std.proofs.Math.Path.{refl}
 use Rattle.std.proofs.Common.{sym, ◌∙◌, arith}
 use Rattle.std.proofs.Math.Bool.{true, false}
 use Rattle.std.proofs.Math.Dec.{eqb}
-use borrow.Author.Tests.{eq-eqb, ne_eqb, eqb-true, eqb-false, le-leb, lt-leb, leb-true, leb-false}
+use borrow.Author.Tests.{eq-eqb, ne_eqb, eqb-true, eqb-false, le-leb, lt-leb}
 use Rattle.record.specs.declared.Entry.{Entry}
 use Rattle.record.specs.declared.Found.{Found}
 use Rattle.record.specs.declared.Found.TheVariants.{At, Fault}
 use Rattle.record.specs.declared.Answer.TheVariants.{All, Refused}
 use Rattle.record.specs.Entry.{entry_at}
 use Rattle.record.specs.Record.{entry_limit, fault_after, standing_after, bytes_held, survey_of}
-use Rattle.record.proofs.theorems.Refusals.{entry_faults}
-use Rattle.record.specs.laws.Steps.{Counting, tally, survey_tally, counts_end, counts_full, counts_unread, counts_misplaced, counts_on}
+use Rattle.record.specs.laws.Steps.{Counting, tally, survey_tally, counts_end, counts_on}
 use Rattle.reader.specs.declared.Progress.{Progress}
-use Rattle.reader.specs.Head.{place_after}
 use Rattle.reader.specs.laws.Survey.{begun, goes_on, stopped, after_entry, below_limit, after_found, answer_of}
 
 -- ---- what is found, case by case
@@ -55,15 +53,6 @@ pub survey_begins : (s : List ℕ) → Surveying s 0 begun
 unfolding bytes_held
 survey_begins s = record { goes = λ _. record { left = entry_limit; limit = refl; same = refl }; stays = λ h. absurd (h refl) }
 
--- an entry is due: nothing stopped the survey, and something stands at the place
-due : (p : Progress) (place n : ℕ) → goes_on p place n ≡ true → (p.fault ≡ 0) × (ltb place n ≡ true)
-unfolding goes_on
-due p place n h = go (eqb p.fault 0) refl h
-  where
-    go : (t : Bool) → eqb p.fault 0 ≡ t → t && ltb place n ≡ true → (p.fault ≡ 0) × (ltb place n ≡ true)
-    go true e q = (eqb-true _ _ e, q)
-    go false e q = let z : ◌≡◌ {A = ℕ} 0 1 = cc in absurd (omega arith)
-
 -- a turn leaves fewer turns
 pub record Turned (s : List ℕ) (place : ℕ) (p p' : Progress) : Type 0 where
   pub after : Surveying s place p'
@@ -76,7 +65,7 @@ module _ (s : List ℕ) (place : ℕ) (p : Progress) (c : Counting (λ i. ltb i 
   turns = simp (eq-eqb _ _ none)
 
   -- the survey stops
-  stops : (next k : ℕ) → (k ≡ 0 → ⊥) → Refused k p.taken ≡ tally (λ e. 1) 0 (bytes_held s) → Turned s next p (stopped p k)
+  pub stops : (next k : ℕ) → (k ≡ 0 → ⊥) → Refused k p.taken ≡ tally (λ e. 1) 0 (bytes_held s) → Turned s next p (stopped p k)
   unfolding turns_left
   stops next k h q = record { after = record { goes = λ z. absurd (h z); stays = λ _. q }; fewer = omega (arith, turns, left_none, c.limit) }
     where
@@ -84,7 +73,7 @@ module _ (s : List ℕ) (place : ℕ) (p : Progress) (c : Counting (λ i. ltb i 
       left_none = simp (ne_eqb _ _ h)
 
   -- the entry was taken
-  takes : (e : Entry) (next : ℕ) → entry_at s place ≡ At e next → p.taken < entry_limit → fault_after p.standing e ≡ 0
+  pub takes : (e : Entry) (next : ℕ) → entry_at s place ≡ At e next → p.taken < entry_limit → fault_after p.standing e ≡ 0
       → Turned s next p (record { standing = standing_after p.standing e; taken = p.taken + 1; fault = 0 })
   unfolding turns_left
   takes e next g l h = record {
@@ -94,35 +83,6 @@ module _ (s : List ℕ) (place : ℕ) (p : Progress) (c : Counting (λ i. ltb i 
     where
       left_one : turns_left (record { standing = standing_after p.standing e; taken = p.taken + 1; fault = 0 }) ≡ entry_limit + 1 - (p.taken + 1)
       left_one = refl
-
-  turn : Turned s (place_after (entry_at s place) place) p (after_found p (entry_at s place))
-  unfolding place_after
-  turn = limit (leb entry_limit p.taken) refl
-    where
-      checked : (t : Bool) (e : Entry) (next : ℕ) → entry_at s place ≡ At e next → p.taken < entry_limit → eqb (fault_after p.standing e) 0 ≡ t
-          → Turned s next p (after_found p (At e next))
-      checked true e next g l h = subst (Turned s next p) (sym (after_on p e next l (eqb-true _ _ h))) (takes e next g l (eqb-true _ _ h))
-      checked false e next g l h =
-          subst (Turned s next p) (sym (after_misplaced p e next l (eqb-false _ _ h)))
-          (stops next (fault_after p.standing e) (eqb-false _ _ h) (counts_misplaced _ _ _ _ _ _ _ _ c _ e next more (λ z. omega (arith, l, z)) g refl (eqb-false _ _ h)))
-
-      found : (f : Found) → entry_at s place ≡ f → p.taken < entry_limit → Turned s (place_after f place) p (after_found p f)
-      found (Fault k) g l =
-          subst (Turned s place p) (sym (after_unread p k l))
-          (stops place k (λ z. omega (arith, (entry_faults s place k g).0, z)) (counts_unread _ _ _ _ _ _ _ _ c k more (λ z. omega (arith, l, z)) g))
-      found (At e next) g l = checked (eqb (fault_after p.standing e) 0) e next g l refl
-
-      limit : (t : Bool) → leb entry_limit p.taken ≡ t → Turned s (place_after (entry_at s place) place) p (after_found p (entry_at s place))
-      limit true h =
-          let l = leb-true _ _ h in
-          subst (Turned s (place_after (entry_at s place) place) p) (sym (after_full p (entry_at s place) l))
-          (stops (place_after (entry_at s place) place) 28 (λ z. omega (arith, z)) (counts_full _ _ _ _ _ _ _ _ c more (omega (arith, l, c.limit))))
-      limit false h = found (entry_at s place) refl (leb-false _ _ h)
-
--- while an entry is due, what is found there leads on
-pub survey_turns : (s : List ℕ) (place : ℕ) (p : Progress) → Surveying s place p → goes_on p place (length s) ≡ true
-    → Turned s (place_after (entry_at s place) place) p (after_found p (entry_at s place))
-survey_turns s place p i h = let d = due p place (length s) h in turn s place p (i.goes d.0) d.0 d.1
 
 -- when none is due, the answer is what the bytes hold
 pub survey_ends : (s : List ℕ) (place : ℕ) (p : Progress) → Surveying s place p → goes_on p place (length s) ≡ false → answer_of p ≡ survey_of (bytes_held s)
