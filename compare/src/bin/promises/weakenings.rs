@@ -486,14 +486,14 @@ const WEAKENINGS: &[Weakening] = &[
     Weakening {
         label: "a file that a page names and that isn't there",
         edits: &[
-            edit("", "docs/WHY-IT-HOLDS.md", "`atomic` (crates/protocol/specs/laws/Atomic.antt)", "`atomic` (crates/protocol/specs/laws/Atom.antt)"),
+            edit("", "docs/WHY-IT-HOLDS.md", "`atomic` (crates/protocol/proofs/theorems/Atomic.antt)", "`atomic` (crates/protocol/proofs/theorems/Atom.antt)"),
         ],
-        mentions: "there is no crates/protocol/specs/laws/Atom.antt",
+        mentions: "there is no crates/protocol/proofs/theorems/Atom.antt",
     },
     Weakening {
         label: "a theorem that isn't in the file that a page names",
         edits: &[
-            edit("", "docs/WHY-IT-HOLDS.md", "`atomic` (crates/protocol/specs/laws/Atomic.antt)", "`atom` (crates/protocol/specs/laws/Atomic.antt)"),
+            edit("", "docs/WHY-IT-HOLDS.md", "`atomic` (crates/protocol/proofs/theorems/Atomic.antt)", "`atom` (crates/protocol/proofs/theorems/Atomic.antt)"),
         ],
         mentions: "Atomic.antt doesn't declare atom",
     },
