@@ -158,13 +158,7 @@ fn declared(project: &Project, krate: usize, kind: &str) -> Option<Place> {
 }
 
 /// An item of the file that the segments name, or a constructor of a type in it.
-fn in_module(
-    project: &Project,
-    krate: usize,
-    folder: &str,
-    segments: &[&str],
-    name: &str,
-) -> Option<(Target, bool)> {
+fn in_module(project: &Project, krate: usize, folder: &str, segments: &[&str], name: &str) -> Option<(Target, bool)> {
     let specs = &project.crates[krate].specs;
     for end in (1..=segments.len()).rev() {
         let file = format!("{folder}/{}.antt", segments[..end].join("/"));

@@ -383,12 +383,24 @@ fn read_item(
     let end = body.map_or(item[item.len() - 1].2, |at| item[at].1);
     let mut text: Vec<String> = owner.iter().map(|(_, header)| header.to_string()).collect();
     let indent = if owner.is_some() { "  " } else { "" };
-    text.extend(normal_lines(source, item[0].1, end).into_iter().map(|line| indent.to_string() + &line));
+    text.extend(lines_of(source, item, end).into_iter().map(|line| indent.to_string() + &line));
     let (paths, variants, parameters) = names_in(&said[keyword + 2..], form);
     let clauses = said.iter().filter_map(|(piece, _, _)| clause_of(piece)).collect();
     let owner = owner.map(|(name, _)| name.to_string());
     code.items.push(Item { name: name.to_string(), form, owner, text, paths, variants, parameters, clauses });
     Some(())
+}
+
+/// An item's lines up to a place. Its attribute stands on its first line.
+fn lines_of(source: &[char], item: &[Placed], end: usize) -> Vec<String> {
+    let Some((_, length)) = attribute(item) else { return normal_lines(source, item[0].1, end) };
+    let said = normal_lines(source, item[0].1, item[length - 1].2).join(" ");
+    let mut lines = item.get(length).map_or(Vec::new(), |piece| normal_lines(source, piece.1, end));
+    match lines.first_mut() {
+        Some(first) => first.insert_str(0, &(said + " ")),
+        None => lines.push(said),
+    }
+    lines
 }
 
 /// The lines from a place to another without comments, with single spaces; each keeps how far it is indented beyond the first.
@@ -502,6 +514,7 @@ impl Rack {
         let names: Vec<String> = code.items.iter().map(Item::full_name).collect();
         assert_eq!(names, ["E", "Rack::N", "Rack::made"]);
         assert_eq!(code.items[0].variants, ["One", "Two"]);
+        assert_eq!(code.items[0].text[0], "#[derive(Clone, Copy)] pub enum E {");
         assert_eq!(code.items[0].paths, [["Cell"], ["Held"]]);
         assert_eq!(code.items[1].paths, [["slots", "SLOTS"]]);
         assert_eq!(code.items[2].parameters, ["n", "rack"]);
