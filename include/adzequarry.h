@@ -134,7 +134,7 @@ uint64_t adze_verdict(const uint8_t *bytes, size_t length);
 #define ADZE_BODY_KEEP 2
 #define ADZE_BODY_KEPT 3
 
-/* The place in a rack where a part begins: partyPlace, pairPlace, slotPlace and entryPlace of crates/layout/specs/Layout.antt.
+/* The place in a rack where a part begins: party_place, pair_place, slot_place and entry_place of crates/layout/specs/Layout.antt.
  * Numbers beyond the limits give a place of something else, or none. */
 static inline size_t adze_client_at(size_t client) { return ADZE_RACK_CLIENTS_AT + ADZE_CLIENT_WORDS * client; }
 static inline size_t adze_pair_at(size_t replica, size_t cell) { return ADZE_RACK_PAIRS_AT + ADZE_PAIR_WORDS * (ADZE_CELL_LIMIT * replica + cell); }
@@ -209,7 +209,7 @@ uint64_t adze_rack_run(uint32_t *rack, size_t words, uint32_t allowance, const u
 
 /* ---- an answer taken apart: crates/exports/specs/Unpacked.antt, whose definition is named beside each */
 
-/* numberOfPacked, refusalOfPacked, countOfPacked */
+/* number_of_packed, refusal_of_packed, count_of_packed */
 static inline uint32_t adze_number_of(uint64_t answer) { return (uint32_t)(answer & 0xFFFFFFFFu); }
 static inline uint32_t adze_refusal_of(uint64_t answer) { return (uint32_t)(answer >> 32 & 0xFFu); }
 static inline uint32_t adze_count_of(uint64_t answer) { return (uint32_t)(answer >> 40 & 0xFFu); }
@@ -217,22 +217,22 @@ static inline uint32_t adze_count_of(uint64_t answer) { return (uint32_t)(answer
 /* Whether a call refused: 1 or 0, for every call that answers 64 bits. Each function after it is for the answers that it names. */
 static inline int adze_is_refused(uint64_t answer) { return adze_refusal_of(answer) != 0; }
 
-/* unpackedNumber: a number that was read, and the place after it. unpackedPut: the place after a number that was written. */
+/* unpacked_number: a number that was read, and the place after it. unpacked_put: the place after a number that was written. */
 static inline uint32_t adze_number_read(uint64_t answer) { return adze_number_of(answer); }
 static inline size_t adze_place_after(uint64_t answer, size_t at) { return at + adze_count_of(answer); }
 
-/* unpackedAnswer: the entries that adze_read_record read, the bytes that adze_write_record wrote; where one of them or the judge
+/* unpacked_answer: the entries that adze_read_record read, the bytes that adze_write_record wrote; where one of them or the judge
  * refused, the number of the entry that it names. */
 static inline uint32_t adze_entries_read(uint64_t answer) { return adze_number_of(answer); }
 static inline uint32_t adze_bytes_written(uint64_t answer) { return adze_number_of(answer); }
 static inline uint32_t adze_entry_named(uint64_t answer) { return adze_number_of(answer); }
 
-/* unpackedVerdict: exactly one of lawful, unlawful and refused holds of a verdict; of an unlawful one, its lowest unlawful cell. */
+/* unpacked_verdict: exactly one of lawful, unlawful and refused holds of a verdict; of an unlawful one, its lowest unlawful cell. */
 static inline int adze_is_lawful(uint64_t verdict) { return adze_refusal_of(verdict) == 0 && adze_count_of(verdict) == 0; }
 static inline int adze_is_unlawful(uint64_t verdict) { return adze_refusal_of(verdict) == 0 && adze_count_of(verdict) != 0; }
 static inline uint32_t adze_unlawful_cell(uint64_t verdict) { return adze_count_of(verdict) - 1; }
 
-/* unpackedRun: the events that adze_rack_run did, beside a refusal too. */
+/* unpacked_run: the events that adze_rack_run did, beside a refusal too. */
 static inline uint32_t adze_events_done(uint64_t answer) { return adze_number_of(answer); }
 
 #ifdef __cplusplus

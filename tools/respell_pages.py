@@ -3,6 +3,7 @@
 
 usage: tools/respell_pages.py            at the top, once, after tools/respell.py: rewrites the pages, in backquotes
        tools/respell_pages.py --list     prints each old name and its new one, and changes nothing
+       tools/respell_pages.py --paths    only brings paths up to date of theorems that have moved from specs/laws/ to proofs/theorems/
 
 The first line of docs/PORT.md names the commit in the old spelling. A file of specs/, or of lemmas, declares the same things in the same order there
 and here: so the names are laid beside one another, file by file. A name that became two is left as it is, and printed where a page has it.
@@ -19,6 +20,7 @@ MARKS = r"\s*(?:(?:pub|abbrev|unfoldable|opaque|axiom)\s+)*(?:record\s+|data\s+)
 DECLARED = re.compile(rf"{MARKS}({NAME}(?:\s+{NAME})*)(?:\s*(?:\{{[^}}]*\}}|\([^)]*\)))*\s*:(?:\s|$)")
 NO_NAMES = ("use", "module", "where", "let")
 QUOTED = re.compile(r"```.*?```|`[^`]*`", re.S)
+PATH = re.compile(r"crates/\w+/specs/laws/\w+\.antt")
 WORD = re.compile(r"[A-Za-z_][\w'′]*(?:-[\w'′]+)*")
 
 
@@ -53,6 +55,12 @@ def respelled(landed):
     return names
 
 
+def moved(found):
+    """A path, or the one in proofs/theorems/ where the theorems have moved there."""
+    there = found[0].replace("/specs/laws/", "/proofs/theorems/")
+    return there if not os.path.isfile(found[0]) and os.path.isfile(there) else found[0]
+
+
 def main():
     with open("docs/PORT.md", encoding="utf-8") as it:
         names = respelled(it.readline().strip())
@@ -62,7 +70,7 @@ def main():
         return
     for page in PAGES:
         with open(page, encoding="utf-8") as it:
-            text = it.read()
+            text = PATH.sub(moved, it.read())
 
         def word(found):
             now = names.get(found[0], {found[0]})
@@ -70,7 +78,8 @@ def main():
                 print(f"{page}: {found[0]} is now one of {', '.join(sorted(now))}")
             return now.copy().pop() if len(now) == 1 else found[0]
 
-        text = QUOTED.sub(lambda found: WORD.sub(word, found[0]), text)
+        if "--paths" not in sys.argv:
+            text = QUOTED.sub(lambda found: WORD.sub(word, found[0]), text)
         with open(page, "w", encoding="utf-8") as it:
             it.write(text)
 

@@ -23,7 +23,7 @@ pub enum Form {
 pub struct Item {
     pub name: String,
     pub form: Form,
-    /// `pub`, `abbrev`, `unfoldable`, `axiom`.
+    /// `pub`, `abbrev`, `unfoldable`, `opaque`, `axiom`.
     pub marks: Vec<String>,
     /// The headers of the modules around it, outermost first: `module _ (..) where`.
     pub headers: Vec<Vec<Token>>,
@@ -105,7 +105,7 @@ pub fn chunks(block: &[Token]) -> Vec<&[Token]> {
     starts.iter().zip(ends).map(|(&from, to)| &block[from..to]).collect()
 }
 
-const MARKS: [&str; 4] = ["pub", "abbrev", "unfoldable", "axiom"];
+const MARKS: [&str; 5] = ["pub", "abbrev", "unfoldable", "opaque", "axiom"];
 
 /// Reads the items of a block into `found`.
 pub fn read_block(block: &[Token], headers: &[Vec<Token>], found: &mut Definitions) {
@@ -182,12 +182,19 @@ fn is_signature(before_colon: &[Token]) -> bool {
 fn is_clause(chunk: &[Token], name: &str) -> bool {
     let Some(end) = place_of(chunk, &["="]) else { return false };
     chunk[0].is_word(name)
-        || chunk[..end].iter().any(|token| name.contains('_') && pieces(name).any(|piece| token.is_word(piece)))
+        || chunk[..end].iter().any(|token| is_operator(name) && pieces(name).any(|piece| token.is_word(piece)))
+}
+
+/// The place of an argument in an operator's name.
+pub const PLACE: char = '◌';
+
+pub fn is_operator(name: &str) -> bool {
+    name.contains(PLACE)
 }
 
 /// The parts of an operator's name between its argument places.
 pub fn pieces(name: &str) -> impl Iterator<Item = &str> {
-    name.split('_').filter(|piece| !piece.is_empty())
+    name.split(PLACE).filter(|piece| !piece.is_empty())
 }
 
 fn misunderstood(chunk: &[Token]) -> String {

@@ -1,6 +1,6 @@
 //! The free names of an item: those that it neither binds nor has from the language.
 
-use crate::antt::{member_names, pieces, read_block, Definitions, Form, Item};
+use crate::antt::{is_operator, member_names, pieces, read_block, Definitions, Form, Item};
 use crate::tokens::Token;
 use crate::trees::{place_of, trees, Node};
 
@@ -99,7 +99,7 @@ impl<'a> Walk<'a> {
         let mark = self.bound.len();
         let equals = place_of(clause, &["="]).unwrap_or(clause.len() - 1);
         for node in trees(&clause[..equals]) {
-            if !matches!(&node, Node::Word(word) if word == function || pieces(function).any(|piece| function.contains('_') && piece == word))
+            if !matches!(&node, Node::Word(word) if word == function || is_operator(function) && pieces(function).any(|piece| piece == word))
             {
                 self.pattern_node(&node);
             }
@@ -145,7 +145,7 @@ impl<'a> Walk<'a> {
         nodes.len()
     }
 
-    /// A word, and the path that it begins where dots follow it without a space.
+    /// A word, and the path that it begins where dots follow it without a space: one of modules, or projections of what the word names.
     fn word(&mut self, word: &str, nodes: &[Node], next: usize) -> usize {
         let mut path = word.to_string();
         let mut at = next;
@@ -160,7 +160,7 @@ impl<'a> Walk<'a> {
     }
 
     fn is_bound(&self, word: &str) -> bool {
-        self.bound.iter().any(|name| name == word || (name.contains('_') && pieces(name).any(|piece| piece == word)))
+        self.bound.iter().any(|name| name == word || (is_operator(name) && pieces(name).any(|piece| piece == word)))
     }
 
     /// What stands in brackets: a binder for all that follows, an argument by name, or expressions with commas between.

@@ -1,6 +1,6 @@
 //! What could make a name mean another thing, or leave a file unproved, without a word of its text: `use` and `mod` lines, and axioms.
 
-use crate::antt::{pieces, Definitions, Use};
+use crate::antt::{is_operator, pieces, Definitions, Use};
 use crate::free::is_language;
 use crate::project::{Crate, Project};
 use crate::reach::CONTRACT_WORDS;
@@ -75,9 +75,9 @@ fn hidden(names: BTreeSet<&str>, is_own: impl Fn(&str) -> bool) -> Vec<String> {
     names.into_iter().filter(|name| is_own(name)).map(|name| format!("{name} is a word of the language")).collect()
 }
 
-/// Whether a name is, or as an operator has, a word that is never looked up. `now` and `self` are looked up in files of definitions.
+/// Whether a name is, or as an operator has, a word that is never looked up. The words of contracts are looked up in files of definitions.
 fn is_own(name: &str) -> bool {
-    has_word(name, &|word| is_language(word) || ["⌜", "⌝"].contains(&word))
+    has_word(name, &is_language)
 }
 
 fn is_own_in_contract(name: &str) -> bool {
@@ -85,7 +85,7 @@ fn is_own_in_contract(name: &str) -> bool {
 }
 
 fn has_word(name: &str, is_word: &dyn Fn(&str) -> bool) -> bool {
-    is_word(name) || (name.contains('_') && pieces(name).any(is_word))
+    is_word(name) || (is_operator(name) && pieces(name).any(is_word))
 }
 
 fn is_own_in_code(name: &str) -> bool {
@@ -140,17 +140,21 @@ fn misleading(definitions: &Definitions) -> Vec<String> {
 
 /// A file is proved only where the one above it lists it: the crate's first, or the one with the name of its folder.
 fn unlisted(krate: &Crate, file: &str) -> Option<String> {
-    const FIRST: [&str; 3] = ["specs/Lib.antt", "src/lib.rt", "src/main.rt"];
+    const FIRST: [&str; 4] = ["specs/Lib.antt", "proofs/Lib.antt", "src/lib.rt", "src/main.rt"];
     if FIRST.contains(&file) {
         return None;
     }
     let (folder, name) = file.rsplit_once('/')?;
     let (name, ending) = name.rsplit_once('.')?;
-    let is_top = folder == "specs" || folder == "src";
-    let above = if is_top { FIRST.map(String::from).to_vec() } else { vec![format!("{folder}.{ending}")] };
+    let is_top = ["specs", "proofs", "src"].contains(&folder);
+    let above: Vec<String> = if is_top {
+        FIRST.iter().filter(|list| list.split('/').next() == Some(folder)).map(|list| list.to_string()).collect()
+    } else {
+        vec![format!("{folder}.{ending}")]
+    };
     let lists = |list: &String| {
-        let modules =
-            krate.specs.get(list).map(|above| &above.modules).or(krate.code.get(list).map(|above| &above.modules));
+        let definitions = krate.specs.get(list).or(krate.proofs.get(list)).map(|above| &above.modules);
+        let modules = definitions.or(krate.code.get(list).map(|above| &above.modules));
         list.ends_with(ending) && modules.is_some_and(|modules| modules.iter().any(|module| module == name))
     };
     (!above.iter().any(lists)).then(|| "no file above lists it, so it isn't proved".to_string())

@@ -2,7 +2,8 @@
 //!
 //! A name is looked up in the crates that its section's heading names before the colon (`## clusters, verdict: the judge`), in the crate or type that it is
 //! written behind (`rows::store_row`, `Rack::made`), or in the file said right after it (`(Number.antt)`, `(OnlyOne.antt of runs)`). In a table's column `Call`
-//! it is a public function; elsewhere a definition, a theorem or a must-fail edit, and a function or type only where there is none of these.
+//! it is a public function, and in the column of must-fail edits one of these, where there is one; elsewhere a definition, a theorem or a must-fail edit, and a
+//! function or type only where there is none of these.
 //! Paths and formulas are passed over.
 
 use crate::project::{Place, Project};
@@ -37,6 +38,7 @@ struct Said<'a> {
     file: Option<&'a str>,
     krate: Option<&'a str>,
     is_call: bool,
+    is_edit: bool,
 }
 
 /// What a name may be.
@@ -68,8 +70,9 @@ pub fn read(project: &Project, text: &str) -> Page {
         }
         let parts = if in_table { cells(line) } else { vec![line] };
         for (at, part) in parts.iter().enumerate() {
-            let is_call = columns.get(at) == Some(&"Call");
-            for said in names(part, is_call) {
+            let column = columns.get(at).copied().unwrap_or("");
+            let is_call = column == "Call";
+            for said in names(part, column) {
                 page.tried += 1;
                 match look_up(project, &crates, &said) {
                     Ok(found) => page.note(found, is_call || is_exception, excepted),
@@ -138,7 +141,7 @@ impl Page {
 /// The crates that a heading names before its colon.
 fn crates_in(project: &Project, heading: &str) -> Vec<usize> {
     let before = heading.split(':').next().unwrap_or("");
-    before.split(|c: char| !c.is_alphanumeric()).filter_map(|word| project.crate_named(word)).collect()
+    before.split(|c: char| !c.is_alphanumeric() && c != '_').filter_map(|word| project.crate_named(word)).collect()
 }
 
 fn cells(line: &str) -> Vec<&str> {
@@ -146,24 +149,25 @@ fn cells(line: &str) -> Vec<&str> {
 }
 
 /// The names in backquotes of a part of a line.
-fn names(part: &str, is_call: bool) -> Vec<Said<'_>> {
+fn names<'a>(part: &'a str, column: &str) -> Vec<Said<'a>> {
     let pieces: Vec<&str> = part.split('`').collect();
     let quoted = (1..pieces.len()).step_by(2);
-    quoted.filter_map(|at| said(pieces[at], pieces.get(at + 1).copied().unwrap_or(""), is_call)).collect()
+    quoted.filter_map(|at| said(pieces[at], pieces.get(at + 1).copied().unwrap_or(""), column)).collect()
 }
 
-/// A name that stands in backquotes; none for a path or a formula.
-fn said<'a>(quoted: &'a str, after: &'a str, in_call_column: bool) -> Option<Said<'a>> {
+/// A name that stands in backquotes, in a column of a table or in none; none for a path or a formula.
+fn said<'a>(quoted: &'a str, after: &'a str, column: &str) -> Option<Said<'a>> {
     let called = quoted.ends_with(')');
     let whole = if called { quoted.split('(').next().unwrap_or("") } else { quoted };
     let (prefix, name) = whole.split_once("::").map_or((None, whole), |(prefix, name)| (Some(prefix), name));
     let is_name = name.starts_with(|c: char| c.is_ascii_alphabetic())
-        && name.chars().all(|c| c.is_alphanumeric() || "_-′".contains(c));
+        && name.chars().all(|c| c.is_alphanumeric() || "_-'".contains(c));
     if !is_name || name == "pub" {
         return None;
     }
     let (file, krate) = file_said(after);
-    Some(Said { name, prefix, file, krate, is_call: in_call_column || called })
+    let is_call = column == "Call" || called;
+    Some(Said { name, prefix, file, krate, is_call, is_edit: column.starts_with("Must-fail edit") })
 }
 
 /// ` (Number.antt` or ` (OnlyOne.antt of runs`, right after a name.
@@ -190,12 +194,15 @@ fn look_up(project: &Project, section: &[usize], said: &Said) -> Result<Found, S
     if said.is_call || owner.is_some() {
         return only_one(calls);
     }
-    let items = items_named(project, &crates, said, false);
-    let edits = crates
+    let edits: Vec<Found> = crates
         .iter()
         .filter(|&&krate| project.crates[krate].edits.contains_key(said.name))
-        .map(|&krate| Found::Edit(krate, said.name.to_string()));
-    let mut found: Vec<Found> = items;
+        .map(|&krate| Found::Edit(krate, said.name.to_string()))
+        .collect();
+    if said.is_edit && !edits.is_empty() {
+        return only_one(edits);
+    }
+    let mut found = items_named(project, &crates, said, false);
     if said.file.is_none() {
         found.extend(edits);
     }
@@ -273,7 +280,7 @@ mod tests {
 
     #[test]
     fn names_and_what_is_said_of_them() {
-        let found = names("`runs::x-y` (OnlyOne.antt of runs), `f (g s)`, `put(a, b)` and `Tied` (Words.antt)", false);
+        let found = names("`runs::x-y` (OnlyOne.antt of runs), `f (g s)`, `put(a, b)` and `Tied` (Words.antt)", "");
         assert_eq!(found.len(), 3);
         assert_eq!(
             (found[0].prefix, found[0].file, found[0].krate),
@@ -281,5 +288,6 @@ mod tests {
         );
         assert!(found[1].is_call && !found[2].is_call);
         assert_eq!(found[2].file, Some("Words.antt"));
+        assert!(names("`x`", "Must-fail edits")[0].is_edit && names("`x`", "Call")[0].is_call);
     }
 }

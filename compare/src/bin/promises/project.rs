@@ -11,7 +11,7 @@ use std::path::{Path, PathBuf};
 #[derive(Debug, Default)]
 pub struct Crate {
     pub name: String,
-    /// Files of definitions and theorems, by their path in the crate: `specs/laws/Steps.antt`.
+    /// Files of definitions and theorems, by their path in the crate: `specs/laws/Steps.antt`, `proofs/theorems/OnlyOne.antt`.
     pub specs: BTreeMap<String, Definitions>,
     /// Files of proofs. What they say counts for no promise; names that they bring or declare do.
     pub proofs: BTreeMap<String, Definitions>,
@@ -22,6 +22,10 @@ pub struct Crate {
     /// Files that assume something.
     pub assuming: Vec<String>,
 }
+
+/// Where theorems stand that can't stand in specs/, since a must-fail edit of a definition has to leave specs/ readable: `proofs/theorems.antt`, and the
+/// folder.
+const THEOREMS: &str = "proofs/theorems";
 
 /// Where an item stands. The order is that of crates.txt, then files by name, then as in the file.
 #[derive(Clone, Debug, PartialEq, Eq, PartialOrd, Ord)]
@@ -42,8 +46,8 @@ impl Project {
     pub fn read(root: &Path) -> io::Result<Project> {
         let mut project = Project::default();
         for line in fs::read_to_string(root.join("crates.txt"))?.lines() {
-            let name = line.split(':').next().unwrap_or("").trim();
-            if !name.is_empty() && !name.starts_with('#') {
+            let said = line.split(['#', ':']).next().unwrap_or("");
+            if let Some(name) = said.split_whitespace().next() {
                 let krate = read_crate(root, name)?;
                 project.crates.push(krate);
             }
@@ -135,7 +139,8 @@ fn read_crate(root: &Path, name: &str) -> io::Result<Crate> {
             if imports::assumes(&text) {
                 krate.assuming.push(file.clone());
             }
-            let files = if folder == "specs" { &mut krate.specs } else { &mut krate.proofs };
+            let states = folder == "specs" || file.starts_with(THEOREMS);
+            let files = if states { &mut krate.specs } else { &mut krate.proofs };
             files.insert(file, antt::parse(&text));
         }
     }

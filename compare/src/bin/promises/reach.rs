@@ -7,8 +7,8 @@ use crate::resolve::{in_code, in_contract, in_definitions, Meaning, Target};
 use crate::trees::{place_of, trees, Node};
 use std::collections::{BTreeMap, BTreeSet};
 
-/// Words of a contract that no `use` line brings: its marks, lent memory as it stands, and a method's receiver.
-pub const CONTRACT_WORDS: [&str; 4] = ["⌜", "⌝", "now", "self"];
+/// Words of a contract that no `use` line brings: what a function answers, a method's receiver, and memory that is lent: as it stands, as it was, as it is left.
+pub const CONTRACT_WORDS: [&str; 5] = ["result", "self", "now", "old", "new"];
 
 /// The names that a file's listed items have from its `use` lines, by path.
 pub type Brought = BTreeMap<String, BTreeSet<String>>;

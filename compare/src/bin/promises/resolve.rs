@@ -1,15 +1,15 @@
 //! What a name means, by crate and file: an item of the file, or what its `use` lines bring. A bare name alone never decides.
 
-use crate::antt::{pieces, Definitions, Form, Use};
+use crate::antt::{is_operator, pieces, Definitions, Form, Use, PLACE};
 use crate::project::{Place, Project};
 use crate::rt;
 
 /// Names that are there without a `use` line: those of the prelude `Prim`, its tactics too.
-const PRELUDE: [&str; 10] = ["⊥", "¬_", "Unit", "absurd", "Dec", "yes", "no", "omega", "rw", "cc"];
+const PRELUDE: [&str; 10] = ["⊥", "¬◌", "Unit", "absurd", "Dec", "yes", "no", "omega", "rw", "cc"];
 
 /// Constructors of the kit's library that patterns here are made of. Of the repository's own types they are known.
 const KIT_CONSTRUCTORS: [&str; 13] =
-    ["true", "false", "zero", "suc", "[]", "_∷_", "pos", "negsuc", "inl", "inr", "refl", "yes", "no"];
+    ["true", "false", "zero", "suc", "[]", "◌∷◌", "pos", "negsuc", "inl", "inr", "refl", "yes", "no"];
 
 #[derive(Clone, Debug, PartialEq)]
 pub enum Target {
@@ -29,11 +29,24 @@ pub struct Meaning {
 
 /// Whether a word is this name, or a part of this operator.
 fn says(name: &str, word: &str) -> bool {
-    name == word || (name.contains('_') && pieces(name).any(|piece| piece == word.trim_matches('_')))
+    name == word || (is_operator(name) && pieces(name).any(|piece| piece == word.trim_matches(PLACE)))
 }
 
-/// The meaning of a word in a file of definitions.
+/// The meaning of a word in a file of definitions. Behind a name dots may follow, and fields of what it names.
 pub fn in_definitions(project: &Project, krate: usize, file: &str, word: &str) -> Result<Meaning, String> {
+    let whole = defined(project, krate, file, word);
+    match before_field(word).filter(|_| whole.is_err()) {
+        Some(head) => in_definitions(project, krate, file, head),
+        None => whole,
+    }
+}
+
+/// What the last of the dots in a word stands behind.
+fn before_field(word: &str) -> Option<&str> {
+    word.rsplit_once('.').map(|(head, _)| head).filter(|_| !word.starts_with("Rattle."))
+}
+
+fn defined(project: &Project, krate: usize, file: &str, word: &str) -> Result<Meaning, String> {
     let definitions = &project.crates[krate].specs[file];
     let mut found: Vec<Meaning> = own_items(definitions, word)
         .map(|(item, constructor)| Meaning {
@@ -49,7 +62,11 @@ pub fn in_definitions(project: &Project, krate: usize, file: &str, word: &str) -
 /// The meaning of a word in a contract of a file of code.
 pub fn in_contract(project: &Project, krate: usize, file: &str, word: &str) -> Result<Meaning, String> {
     let uses = &project.crates[krate].code[file].ghost_uses;
-    one_of(through_uses(project, uses, word)?, word)
+    let whole = through_uses(project, uses, word).and_then(|found| one_of(found, word));
+    match before_field(word).filter(|_| whole.is_err()) {
+        Some(head) => in_contract(project, krate, file, head),
+        None => whole,
+    }
 }
 
 /// Exactly one meaning, or the prelude's.
@@ -96,7 +113,7 @@ fn through_uses(project: &Project, uses: &[Use], word: &str) -> Result<Vec<Meani
             constructor,
             through: Some((format!("{} as {head}", line.path), name.to_string())),
         });
-    } else if word.starts_with("Rattle·") {
+    } else if word.starts_with("Rattle.") {
         let (target, constructor) = at_path(project, head, name)?;
         found.push(Meaning { target, constructor, through: Some((head.to_string(), name.to_string())) });
     }
@@ -107,22 +124,21 @@ fn through_uses(project: &Project, uses: &[Use], word: &str) -> Result<Vec<Meani
 fn at_path(project: &Project, path: &str, name: &str) -> Result<(Target, bool), String> {
     let missing = || format!("{path} has no {name}");
     let segments: Vec<&str> = path.split('.').collect();
-    let Some(package) = segments[0].strip_prefix("Rattle·") else {
+    let package = segments.get(1).filter(|_| segments[0] == "Rattle");
+    let Some(krate) = package.and_then(|package| project.crate_named(package)) else {
         return Ok((Target::Kit, KIT_CONSTRUCTORS.contains(&name)));
     };
-    let package = package.strip_suffix("·specs").unwrap_or(package);
-    let Some(krate) = project.crate_named(package) else { return Ok((Target::Kit, false)) };
-    match &segments[1..] {
+    match &segments[2..] {
         ["specs", "declared", kind, rest @ ..] => {
             let place = declared(project, krate, kind).ok_or_else(missing)?;
             let variants = &project.code(&place).ok_or_else(missing)?.variants;
-            let as_variant = rest == ["the-variants"] && variants.iter().any(|variant| variant == name);
+            let as_variant = rest == ["TheVariants"] && variants.iter().any(|variant| variant == name);
             if as_variant || (rest.is_empty() && name == *kind) {
                 return Ok((Target::Item(place), as_variant));
             }
             Err(missing())
         }
-        ["specs", rest @ ..] => in_module(project, krate, rest, name).ok_or_else(missing),
+        [folder @ ("specs" | "proofs"), rest @ ..] => in_module(project, krate, folder, rest, name).ok_or_else(missing),
         _ => Err(missing()),
     }
 }
@@ -142,10 +158,10 @@ fn declared(project: &Project, krate: usize, kind: &str) -> Option<Place> {
 }
 
 /// An item of the file that the segments name, or a constructor of a type in it.
-fn in_module(project: &Project, krate: usize, segments: &[&str], name: &str) -> Option<(Target, bool)> {
+fn in_module(project: &Project, krate: usize, folder: &str, segments: &[&str], name: &str) -> Option<(Target, bool)> {
     let specs = &project.crates[krate].specs;
     for end in (1..=segments.len()).rev() {
-        let file = format!("specs/{}.antt", segments[..end].join("/"));
+        let file = format!("{folder}/{}.antt", segments[..end].join("/"));
         let Some(definitions) = specs.get(&file) else { continue };
         let kind = segments.get(end);
         let mut found = definitions.items.iter().enumerate().filter_map(|(at, item)| {

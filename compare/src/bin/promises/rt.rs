@@ -8,7 +8,7 @@ use crate::tokens::{tokens, Token};
 enum Piece {
     Word(String),
     Mark(char),
-    /// `requires` or `ensures` with its braces.
+    /// `requires` or `ensures` with its braces, and between them the clause's name where it has one.
     Clause(String),
     /// What stands behind `ghost use`, up to its semicolon.
     GhostUse(String),
@@ -203,6 +203,10 @@ fn read_one(source: &[char], item: &[Placed], owner: Option<(&str, &str)>, code:
         code.ghost_uses.push(read_use(&tokens(text)));
         return Some(());
     }
+    if is_mark(item.get(1), '!') && matches!(attribute(&item[1..]), Some(("tactic", _))) {
+        return Some(());
+    }
+    let item = without_tactics(item);
     let keyword = keyword_place(item)?;
     match word_of(&item[keyword].0)? {
         "impl" | "mod" if owner.is_none() => read_inner(source, item, keyword, code),
@@ -214,13 +218,30 @@ fn read_one(source: &[char], item: &[Placed], owner: Option<(&str, &str)>, code:
 
 const ITEMS: [&str; 5] = ["fn", "struct", "enum", "const", "type"];
 
-/// The place of the word that says what an item is: only `#[no_mangle]`, `pub`, `extern "C"` and, of a function, `const` may stand before it.
+/// An item without what only says how the prover goes about it, as the line at a file's head does: `#[tactic(..)]`.
+fn without_tactics(item: &[Placed]) -> &[Placed] {
+    match attribute(item) {
+        Some(("tactic", length)) => without_tactics(&item[length..]),
+        _ => item,
+    }
+}
+
+/// The first word of an attribute that stands first, and its length; of `#![..]` without its first mark.
+fn attribute(item: &[Placed]) -> Option<(&str, usize)> {
+    let begins = (is_mark(item.first(), '#') || is_mark(item.first(), '!')) && is_mark(item.get(1), '[');
+    let name = item.get(2).filter(|_| begins).and_then(|(piece, _, _)| word_of(piece))?;
+    let end = item.iter().position(|piece| is_mark(Some(piece), ']'))?;
+    Some((name, end + 1))
+}
+
+/// The place of the word that says what an item is: only `#[unsafe(no_mangle)]`, `#[derive(..)]`, `pub`, `extern "C"` and, of a function, `const` may stand
+/// before it.
 fn keyword_place(item: &[Placed]) -> Option<usize> {
-    let kept_name = is_mark(item.first(), '#')
-        && is_mark(item.get(1), '[')
-        && is(item.get(2), "no_mangle")
-        && is_mark(item.get(3), ']');
-    let mut at = if kept_name { 4 } else { 0 };
+    let mut at = match attribute(item) {
+        Some(("derive", length)) => length,
+        Some(("unsafe", 7)) if is(item.get(4), "no_mangle") => 7,
+        _ => 0,
+    };
     at += usize::from(is(item.get(at), "pub"));
     let quoted = matches!(item.get(at + 1), Some((Piece::Quoted(_), _, _)));
     if is(item.get(at), "extern") && quoted && is(item.get(at + 2), "fn") {
@@ -237,10 +258,13 @@ fn misunderstood(source: &[char], item: &[Placed]) -> String {
     format!("line {line}: not understood: {text}")
 }
 
-/// An item ends with a semicolon, or with the brace that closes its own; a ghost line is one piece.
+/// An item ends with a semicolon, or with the brace that closes its own; a ghost line is one piece, and `#![..]` an item by itself.
 fn item_end(all: &[Placed], from: usize) -> usize {
     if matches!(all[from].0, Piece::GhostUse(_)) {
         return from + 1;
+    }
+    if is_mark(all.get(from), '#') && is_mark(all.get(from + 1), '!') {
+        return (from..all.len()).find(|&at| is_mark(all.get(at), ']')).map_or(all.len(), |at| at + 1);
     }
     let (mut round, mut curly) = (0, 0);
     for (at, (piece, _, _)) in all.iter().enumerate().skip(from) {
@@ -261,21 +285,38 @@ fn item_end(all: &[Placed], from: usize) -> usize {
     all.len()
 }
 
-/// `use a::b::C;`, `use a::C as D;`.
+/// `use a::b::C;`, `use a::C as D;`, `use a::{C, D};`.
 fn read_code_use(item: &[Placed], keyword: usize, code: &mut Code) -> Option<()> {
     let (last, line) = item[keyword + 1..].split_last()?;
-    let plain = line.iter().all(|(piece, _, _)| matches!(piece, Piece::Word(_) | Piece::Mark(':')));
-    if !plain || !is_mark(Some(last), ';') {
+    let open = line.iter().position(|piece| is_mark(Some(piece), '{')).unwrap_or(line.len());
+    let (path, group) = (words_of(&line[..open])?, &line[open..]);
+    let names = match group {
+        [] => vec![Vec::new()],
+        [_, inner @ .., close] if is_mark(Some(close), '}') => {
+            let parts = inner.split(|piece| is_mark(Some(piece), ',')).filter(|part| !part.is_empty());
+            parts.map(words_of).collect::<Option<Vec<_>>>()?
+        }
+        _ => return None,
+    };
+    if !is_mark(Some(last), ';') {
         return None;
     }
-    let words: Vec<String> = line.iter().filter_map(|(piece, _, _)| word_of(piece)).map(str::to_string).collect();
-    let end = words.iter().position(|word| word == "as").unwrap_or(words.len());
-    let local = words.last()?;
-    if keyword > 0 {
-        code.faults.push(format!("pub use {local}: a public name that docs/PROMISES.md can't have a row for"));
+    for name in names {
+        let words = [path.clone(), name].concat();
+        let end = words.iter().position(|word| word == "as").unwrap_or(words.len());
+        let local = words.last()?;
+        if keyword > 0 {
+            code.faults.push(format!("pub use {local}: a public name that docs/PROMISES.md can't have a row for"));
+        }
+        code.uses.push((local.clone(), words[..end].to_vec()));
     }
-    code.uses.push((local.clone(), words[..end].to_vec()));
     Some(())
+}
+
+/// The words of a plain path; none where there is anything else in it.
+fn words_of(path: &[Placed]) -> Option<Vec<String>> {
+    let plain = path.iter().all(|(piece, _, _)| matches!(piece, Piece::Word(_) | Piece::Mark(':')));
+    plain.then(|| path.iter().filter_map(|(piece, _, _)| word_of(piece)).map(str::to_string).collect())
 }
 
 fn word_of(piece: &Piece) -> Option<&str> {
@@ -342,12 +383,24 @@ fn read_item(
     let end = body.map_or(item[item.len() - 1].2, |at| item[at].1);
     let mut text: Vec<String> = owner.iter().map(|(_, header)| header.to_string()).collect();
     let indent = if owner.is_some() { "  " } else { "" };
-    text.extend(normal_lines(source, item[0].1, end).into_iter().map(|line| indent.to_string() + &line));
+    text.extend(lines_of(source, item, end).into_iter().map(|line| indent.to_string() + &line));
     let (paths, variants, parameters) = names_in(&said[keyword + 2..], form);
     let clauses = said.iter().filter_map(|(piece, _, _)| clause_of(piece)).collect();
     let owner = owner.map(|(name, _)| name.to_string());
     code.items.push(Item { name: name.to_string(), form, owner, text, paths, variants, parameters, clauses });
     Some(())
+}
+
+/// An item's lines up to a place. Its attribute stands on its first line.
+fn lines_of(source: &[char], item: &[Placed], end: usize) -> Vec<String> {
+    let Some((_, length)) = attribute(item) else { return normal_lines(source, item[0].1, end) };
+    let said = normal_lines(source, item[0].1, item[length - 1].2).join(" ");
+    let mut lines = item.get(length).map_or(Vec::new(), |piece| normal_lines(source, piece.1, end));
+    match lines.first_mut() {
+        Some(first) => first.insert_str(0, &(said + " ")),
+        None => lines.push(said),
+    }
+    lines
 }
 
 /// The lines from a place to another without comments, with single spaces; each keeps how far it is indented beyond the first.
@@ -366,7 +419,9 @@ fn normal_lines(source: &[char], from: usize, to: usize) -> Vec<String> {
 fn clause_of(piece: &Piece) -> Option<(String, Vec<Token>)> {
     let Piece::Clause(text) = piece else { return None };
     let (word, rest) = text.split_at(text.find('{')?);
-    Some((word.trim().to_string(), tokens(rest.trim().trim_start_matches('{').trim_end_matches('}'))))
+    let word = word.split_whitespace().next()?.to_string();
+    let said = rest.trim().strip_prefix('{')?.strip_suffix('}')?;
+    Some((word, tokens(said)))
 }
 
 /// The paths, variants and parameters that an item names after its own name.
@@ -417,9 +472,9 @@ fn path_at(said: &[Placed], from: usize, first: &str) -> (Vec<String>, usize) {
 
 /// Words that name no item: those of the language, its own types, numbers and lifetimes.
 pub fn is_code_word(word: &str) -> bool {
-    const WORDS: [&str; 19] = [
+    const WORDS: [&str; 20] = [
         "pub", "mut", "self", "Self", "bool", "u8", "u16", "u32", "u64", "usize", "i8", "i16", "i32", "i64", "isize",
-        "u128", "i128", "str", "as",
+        "u128", "i128", "str", "as", "impl",
     ];
     WORDS.contains(&word) || word.starts_with(|c: char| c.is_ascii_digit() || c == '\'')
 }
@@ -429,9 +484,11 @@ mod tests {
     use super::*;
 
     const SOURCE: &str = "\
+#![tactic(auto)]
 ghost use a.B.{c};
-use method::Held;
+use method::{Held, Party};
 
+#[derive(Clone, Copy)]
 pub enum E {
     One(Cell, i32),
     Two { at: Held },
@@ -441,9 +498,10 @@ impl Rack {
     pub const N: usize = slots::SLOTS;
 
     // why
+    #[tactic(auto, using(crate::proofs::Laws::n))]
     pub fn made(n: u32, rack: &mut [Rack; 8]) -> Made
-        requires { ⌜ n ≤ 4 ⌝ }
-        ensures { λ r. ⌜ r ≡ f (record { n = n }) ⌝ }
+        requires { n ≤ 4 }
+        ensures value { result ≡ f (record { n = n }) }
     {
         if n < 1 { return '{'; }
     }
@@ -456,12 +514,13 @@ impl Rack {
         let names: Vec<String> = code.items.iter().map(Item::full_name).collect();
         assert_eq!(names, ["E", "Rack::N", "Rack::made"]);
         assert_eq!(code.items[0].variants, ["One", "Two"]);
+        assert_eq!(code.items[0].text[0], "#[derive(Clone, Copy)] pub enum E {");
         assert_eq!(code.items[0].paths, [["Cell"], ["Held"]]);
         assert_eq!(code.items[1].paths, [["slots", "SLOTS"]]);
         assert_eq!(code.items[2].parameters, ["n", "rack"]);
         assert_eq!(code.items[2].clauses.len(), 2);
         assert_eq!(code.items[2].text[1], "  pub fn made(n: u32, rack: &mut [Rack; 8]) -> Made");
-        assert_eq!(code.uses[0].1, ["method", "Held"]);
+        assert_eq!(code.uses[1].1, ["method", "Party"]);
         assert!(code.faults.is_empty(), "{:?}", code.faults);
     }
 
@@ -478,11 +537,15 @@ impl Rack {
             "pub fn f();",
             "pub fn",
             "pub use a::b as c;",
-            "use a::{b, c};",
+            "use a::{b, c::{d}};",
             "use a::*;",
+            "use a::{b, *};",
             "ghost fn f() {}",
             "fn f() { ghost use a.{b}; }",
             "#[cfg(test)] pub fn f() {}",
+            "#[derive(Drop)] #[cfg(test)] pub fn f() {}",
+            "#[unsafe(naked)] pub fn f() {}",
+            "#![allow(x)]",
             "}",
             "pub struct",
             "enum E {",

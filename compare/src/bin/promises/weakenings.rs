@@ -38,7 +38,7 @@ const WEAKENINGS: &[Weakening] = &[
             "module _ (replicas clients cells allowance : ℕ) (ws : List ℕ) where",
             "module _ (replicas clients cells allowance : ℕ) (ws : List ℕ) (never : ⊥) where",
         )],
-        mentions: "two-per-replica",
+        mentions: "two_per_replica",
     },
     Weakening {
         label: "a second module, with an absurd parameter, around one theorem",
@@ -65,8 +65,8 @@ const WEAKENINGS: &[Weakening] = &[
         edits: &[edit(
             "counts",
             "Requests.antt",
-            "  pub present : (c : ℕ) → 1 ≤ partyAt (rackAfter replicas clients cells allowance ws) c .op\n",
-            "  pub present : (c : ℕ) → 1 ≤ partyAt (rackAfter replicas clients cells allowance ws) c .op\n      → ⊥\n",
+            "  pub present : (c : ℕ) → 1 ≤ (party_at (rack_after replicas clients cells allowance ws) c).op\n",
+            "  pub present : (c : ℕ) → 1 ≤ (party_at (rack_after replicas clients cells allowance ws) c).op\n      → ⊥\n",
         )],
         mentions: "present",
     },
@@ -76,7 +76,7 @@ const WEAKENINGS: &[Weakening] = &[
             "verdict",
             "lib.rt",
             "pub fn judge(s: &[u8]) -> Verdict\n",
-            "pub fn judge(s: &[u8]) -> Verdict\n    requires { ⌜ length (now s) ≤ 4 ⌝ }\n",
+            "pub fn judge(s: &[u8]) -> Verdict\n    requires { length s.now ≤ 4 }\n",
         )],
         mentions: "pub fn judge",
     },
@@ -88,33 +88,33 @@ const WEAKENINGS: &[Weakening] = &[
                 "sheet",
                 "Sheet.antt",
                 concat!(
-                    "  pub early-5 : BytesSay\n",
+                    "  pub early_5 : BytesSay\n",
                     "      (0x00 ∷ 0x01 ∷ 0x02 ∷ 0x02 ∷ 0x01 ∷ 0x0A ∷ 0x01 ∷ 0x00 ∷ 0x02 ∷ 0x0A ∷ 0x03 ∷ 0x00 ∷ [])\n",
-                    "      (reads 1 2 ∷ toldBy 1 (pos 5) ∷ writes 0 2 (pos 5) ∷ doneBy 0 ∷ [])\n",
+                    "      (reads 1 2 ∷ told_by 1 (pos 5) ∷ writes 0 2 (pos 5) ∷ done_by 0 ∷ [])\n",
                     "      (unlawful 2)\n"
                 ),
                 "",
             ),
-            edit("sheet", "Shown.antt", "      early-5 = unlawful-line refl refl refl refl refl refl tt;\n", ""),
+            edit("sheet", "Shown.antt", "      early_5 = unlawful_line refl refl refl refl refl refl tt;\n", ""),
         ],
-        mentions: "early-5",
+        mentions: "early_5",
     },
     Weakening {
         label: "another line of the bench sheet removed",
         edits: &[
-            edit("sheet", "Sheet.antt", "  pub number-largest : numberBytes 4294967295 ≡ 0xFF ∷ 0xFF ∷ 0xFF ∷ 0xFF ∷ 0x0F ∷ []\n", ""),
-            edit("sheet", "Shown.antt", "      number-largest = refl;\n", ""),
+            edit("sheet", "Sheet.antt", "  pub number_largest : number_bytes 4294967295 ≡ 0xFF ∷ 0xFF ∷ 0xFF ∷ 0xFF ∷ 0x0F ∷ []\n", ""),
+            edit("sheet", "Shown.antt", "      number_largest = refl;\n", ""),
         ],
-        mentions: "number-largest",
+        mentions: "number_largest",
     },
     Weakening {
         label: "what stands in lent memory after a write no longer said",
-        edits: &[edit("number", "Number.antt", "  pub bytes : d′ ≡ putBytes d at bs\n", "")],
+        edits: &[edit("number", "Number.antt", "  pub bytes : d' ≡ put_bytes d at bs\n", "")],
         mentions: "pub bytes",
     },
     Weakening {
         label: "only one fits, without that they are one",
-        edits: &[edit("number", "OnlyOne.antt", "  pub next : nextIn r ≡ nextIn r′\n  pub same : r ≡ r′\n", "  pub next : nextIn r ≡ nextIn r′\n")],
+        edits: &[edit("number", "OnlyOne.antt", "  pub next : next_in r ≡ next_in r'\n  pub same : r ≡ r'\n", "  pub next : next_in r ≡ next_in r'\n")],
         mentions: "SameNumber",
     },
     Weakening {
@@ -139,18 +139,18 @@ const WEAKENINGS: &[Weakening] = &[
     },
     Weakening {
         label: "one clause of a definition changed",
-        edits: &[edit("verdict", "Verdict.antt", "distinct (entries es) = distinctFrom [] 0 es (entries es)", "distinct (entries es) = entries es")],
+        edits: &[edit("verdict", "Verdict.antt", "distinct (entries es) = distinct_from [] 0 es (entries es)", "distinct (entries es) = entries es")],
         mentions: "distinct",
     },
     Weakening {
         label: "a definition that only statements of another file are made of changed",
-        edits: &[edit("counts", "Counts.antt", "(madeRack replicas clients cells) allowance ws .rack\n", "(madeRack replicas clients cells) 0 ws .rack\n")],
-        mentions: "rackAfter",
+        edits: &[edit("counts", "Counts.antt", "(made_rack replicas clients cells) allowance ws).rack\n", "(made_rack replicas clients cells) 0 ws).rack\n")],
+        mentions: "rack_after",
     },
     Weakening {
         label: "the limit of 2,048 entries changed",
-        edits: &[edit("record", "Record.antt", "entryLimit = 2048\n", "entryLimit = 1024\n")],
-        mentions: "entryLimit",
+        edits: &[edit("record", "Record.antt", "entry_limit = 2048\n", "entry_limit = 1024\n")],
+        mentions: "entry_limit",
     },
     // ---- the code's types, constants and functions
     Weakening {
@@ -175,18 +175,18 @@ const WEAKENINGS: &[Weakening] = &[
     },
     Weakening {
         label: "a contract removed",
-        edits: &[edit("verdict", "lib.rt", "\n    ensures { λ r. ⌜ Judges (takenFor (now (s .entry))) r ⌝ }\n{", "\n{")],
+        edits: &[edit("verdict", "lib.rt", "\n    ensures { Judges (taken_for s.now) result }\n{", "\n{")],
         mentions: "judge has no contract",
     },
     // ---- what names mean
     Weakening {
         label: "a symbol that means another one",
-        edits: &[edit("number", "Number.antt", "use lib.Dec.{ltb, leb, eqb}\n", "use lib.Dec.{leb as ltb, leb, eqb}\n")],
+        edits: &[edit("number", "Number.antt", ", ltb, leb, eqb}\n", ", leb as ltb, leb, eqb}\n")],
         mentions: "leb as ltb",
     },
     Weakening {
         label: "a symbol of the contracts from another path",
-        edits: &[edit("number", "lib.rt", "ghost use mathlib.Core.Path.{_≡_};\n", "ghost use lib.Loose.{_≡_};\n")],
+        edits: &[edit("number", "lib.rt", "ghost use Rattle.std.specs.Prelude.{◌≡◌, ", "ghost use lib.Loose.{◌≡◌};\nghost use Rattle.std.specs.Prelude.{")],
         mentions: "lib.Loose",
     },
     Weakening {
@@ -194,15 +194,15 @@ const WEAKENINGS: &[Weakening] = &[
         edits: &[edit(
             "promise",
             "Promise.antt",
-            "use Rattle·law.specs.Order.{Lawful}\n",
-            "use Rattle·law.specs.Operation.{Op}\n\nabbrev pub Lawful : List Op → Type 0\nLawful s = Unit {0}\n\n",
+            "use Rattle.law.specs.Order.{Lawful}\n",
+            "use Rattle.law.specs.Operation.{Op}\n\nabbrev pub Lawful : List Op → Type 0\nLawful s = Unit {0}\n\n",
         )],
         mentions: "Lawful s = Unit",
     },
     Weakening {
         label: "a definition behind another of the same name in another crate",
         edits: &[
-            edit("promise", "Promise.antt", "use Rattle·law.specs.Order.{Lawful}\n", "use Rattle·stamps.specs.Stamp.{Lawful}\n"),
+            edit("promise", "Promise.antt", "use Rattle.law.specs.Order.{Lawful}\n", "use Rattle.stamps.specs.Stamp.{Lawful}\n"),
             edit(
                 "stamps",
                 "Stamp.antt",
@@ -219,104 +219,104 @@ const WEAKENINGS: &[Weakening] = &[
     },
     Weakening {
         label: "a library's name that a file takes for another",
-        edits: &[edit("number", "Number.antt", "use lib.Dec.{ltb, leb, eqb}\n", "use Rattle·number·specs.specs.Steps as lib\nuse lib.Dec.{ltb, leb, eqb}\n")],
-        mentions: "the path lib.Dec",
+        edits: &[edit("number", "Number.antt", "use Rattle.std.specs.Prelude.{ℕ, ", "use Rattle.number.specs.laws.Steps as Rattle\nuse Rattle.std.specs.Prelude.{ℕ, ")],
+        mentions: "the path Rattle.std",
     },
     Weakening {
         label: "names that a line brings without listing them",
-        edits: &[edit("number", "OnlyOne.antt", "use Prim.Native.Nat.{ℕ}\n", "use Prim.Native.Nat.{ℕ}\nuse Kid.*\n")],
+        edits: &[edit("number", "OnlyOne.antt", "use Rattle.std.specs.Prelude.{ℕ, ", "use Kid.*\nuse Rattle.std.specs.Prelude.{ℕ, ")],
         mentions: "Kid.*",
     },
     Weakening {
         label: "a symbol of the contracts from another path, with two spaces",
         edits: &[
-            edit("number", "lib.rt", "ghost use mathlib.Core.Path.{_≡_};\n", "ghost  use lib.Loose.{_≡_};\n"),
+            edit("number", "lib.rt", "ghost use Rattle.std.specs.Prelude.{◌≡◌, ", "ghost  use lib.Loose.{◌≡◌};\nghost use Rattle.std.specs.Prelude.{"),
         ],
         mentions: "lib.Loose",
     },
     Weakening {
         label: "a symbol of the contracts from another path, with a line break",
         edits: &[
-            edit("number", "lib.rt", "ghost use mathlib.Core.Path.{_≡_};\n", "ghost\n    use lib.Loose.{_≡_};\n"),
+            edit("number", "lib.rt", "ghost use Rattle.std.specs.Prelude.{◌≡◌, ", "ghost\n    use lib.Loose.{◌≡◌};\nghost use Rattle.std.specs.Prelude.{"),
         ],
         mentions: "lib.Loose",
     },
     Weakening {
         label: "a symbol of the contracts from another path, with a comment",
         edits: &[
-            edit("number", "lib.rt", "ghost use mathlib.Core.Path.{_≡_};\n", "ghost /* why */ use lib.Loose.{_≡_};\n"),
+            edit("number", "lib.rt", "ghost use Rattle.std.specs.Prelude.{◌≡◌, ", "ghost /* why */ use lib.Loose.{◌≡◌};\nghost use Rattle.std.specs.Prelude.{"),
         ],
         mentions: "lib.Loose",
     },
     Weakening {
         label: "a ghost line that is no use line",
         edits: &[
-            edit("number", "lib.rt", "ghost use mathlib.Core.Path.{_≡_};\n", "ghost use mathlib.Core.Path.{_≡_};\nghost open lib.Loose;\n"),
+            edit("number", "lib.rt", "ghost use Rattle.std.specs.Prelude.{◌≡◌, ", "ghost open lib.Loose;\nghost use Rattle.std.specs.Prelude.{◌≡◌, "),
         ],
         mentions: "not understood: ghost open",
     },
     Weakening {
-        label: "the contracts' marks from elsewhere",
+        label: "the contracts' word for what a function answers from elsewhere",
         edits: &[
-            edit("number", "lib.rt", "ghost use mathlib.Core.Path.{_≡_};\n", "ghost use mathlib.Core.Path.{_≡_};\nghost use lib.Loose.{anything as ⌜_⌝};\n"),
+            edit("number", "lib.rt", "ghost use Rattle.std.specs.Prelude.{◌≡◌, ", "ghost use lib.Loose.{anything as result};\nghost use Rattle.std.specs.Prelude.{◌≡◌, "),
         ],
-        mentions: "lib.rt: ⌜_⌝ is a word",
+        mentions: "lib.rt: result is a word",
     },
     Weakening {
         label: "the contracts' word for memory as it stands from elsewhere",
         edits: &[
-            edit("number", "lib.rt", "ghost use mathlib.Core.Path.{_≡_};\n", "ghost use mathlib.Core.Path.{_≡_};\nghost use lib.Loose.{anything as now};\n"),
+            edit("number", "lib.rt", "ghost use Rattle.std.specs.Prelude.{◌≡◌, ", "ghost use lib.Loose.{anything as now};\nghost use Rattle.std.specs.Prelude.{◌≡◌, "),
         ],
         mentions: "lib.rt: now is a word",
     },
     Weakening {
         label: "the contracts' word for a method's receiver from elsewhere",
         edits: &[
-            edit("number", "lib.rt", "ghost use mathlib.Core.Path.{_≡_};\n", "ghost use mathlib.Core.Path.{_≡_};\nghost use lib.Loose.{anything as self};\n"),
+            edit("number", "lib.rt", "ghost use Rattle.std.specs.Prelude.{◌≡◌, ", "ghost use lib.Loose.{anything as self};\nghost use Rattle.std.specs.Prelude.{◌≡◌, "),
         ],
         mentions: "lib.rt: self is a word",
     },
     Weakening {
         label: "the sign for pairs from elsewhere, in code",
         edits: &[
-            edit("number", "lib.rt", "ghost use mathlib.Core.Path.{_≡_};\n", "ghost use mathlib.Core.Path.{_≡_};\nghost use lib.Loose.{anything as _×_};\n"),
+            edit("number", "lib.rt", "ghost use Rattle.std.specs.Prelude.{◌≡◌, ", "ghost use lib.Loose.{anything as ◌×◌};\nghost use Rattle.std.specs.Prelude.{◌≡◌, "),
         ],
-        mentions: "lib.rt: _×_ is a word",
+        mentions: "lib.rt: ◌×◌ is a word",
     },
     Weakening {
         label: "the word for types from elsewhere, in code",
         edits: &[
-            edit("number", "lib.rt", "ghost use mathlib.Core.Path.{_≡_};\n", "ghost use mathlib.Core.Path.{_≡_};\nghost use lib.Loose.{anything as Type};\n"),
+            edit("number", "lib.rt", "ghost use Rattle.std.specs.Prelude.{◌≡◌, ", "ghost use lib.Loose.{anything as Type};\nghost use Rattle.std.specs.Prelude.{◌≡◌, "),
         ],
         mentions: "lib.rt: Type is a word",
     },
     Weakening {
         label: "the sign for pairs means a choice",
         edits: &[
-            edit("number", "Number.antt", "use lib.Dec.{ltb, leb, eqb}\n", "use lib.Dec.{ltb, leb, eqb}\nuse mathlib.Core.Logic.{_⊎_ as _×_}\n"),
+            edit("number", "Number.antt", "use Rattle.std.specs.Prelude.{ℕ, ", "use Rattle.std.specs.Prelude.{◌⊎◌ as ◌×◌}\nuse Rattle.std.specs.Prelude.{ℕ, "),
         ],
-        mentions: "Number.antt: _×_ is a word",
+        mentions: "Number.antt: ◌×◌ is a word",
     },
     Weakening {
         label: "the word for types from elsewhere",
         edits: &[
-            edit("number", "Number.antt", "use lib.Dec.{ltb, leb, eqb}\n", "use lib.Dec.{ltb, leb, eqb}\nuse lib.Loose.{x as Type}\n"),
+            edit("number", "Number.antt", "use Rattle.std.specs.Prelude.{ℕ, ", "use lib.Loose.{x as Type}\nuse Rattle.std.specs.Prelude.{ℕ, "),
         ],
         mentions: "Number.antt: Type is a word",
     },
     Weakening {
         label: "the sign for pairs defined",
         edits: &[
-            edit("number", "OnlyOne.antt", "-- ---- read_number\n", "abbrev pub _×_ : Type 0 → Type 0 → Type 0\nA × B = Unit {0}\n\n-- ---- read_number\n"),
+            edit("number", "OnlyOne.antt", "-- ---- read_number\n", "abbrev pub ◌×◌ : Type 0 → Type 0 → Type 0\nA × B = Unit {0}\n\n-- ---- read_number\n"),
         ],
-        mentions: "OnlyOne.antt: _×_ is a word",
+        mentions: "OnlyOne.antt: ◌×◌ is a word",
     },
     Weakening {
         label: "the sign for functions defined",
         edits: &[
-            edit("number", "OnlyOne.antt", "-- ---- read_number\n", "abbrev pub _→_ : Type 0\n_→_ = Unit {0}\n\n-- ---- read_number\n"),
+            edit("number", "OnlyOne.antt", "-- ---- read_number\n", "abbrev pub ◌→◌ : Type 0\n◌→◌ = Unit {0}\n\n-- ---- read_number\n"),
         ],
-        mentions: "OnlyOne.antt: _→_ is a word",
+        mentions: "OnlyOne.antt: ◌→◌ is a word",
     },
     Weakening {
         label: "the word for types defined",
@@ -355,9 +355,9 @@ const WEAKENINGS: &[Weakening] = &[
         mentions: "pub use take",
     },
     Weakening {
-        label: "several names in one line of code",
+        label: "several names in one line of code, and names of one of them",
         edits: &[
-            edit("text", "lib.rt", "// Words, as bytes.\npub fn put_words", "use number::{read_number, signed};\n\n// Words, as bytes.\npub fn put_words"),
+            edit("text", "lib.rt", "// Words, as bytes.\npub fn put_words", "use number::{read_number, signed::{a, b}};\n\n// Words, as bytes.\npub fn put_words"),
         ],
         mentions: "not understood: use number",
     },
@@ -409,7 +409,7 @@ const WEAKENINGS: &[Weakening] = &[
     },
     Weakening {
         label: "a lemma in a proof that is assumed",
-        edits: &[edit("counts", "Requests.antt", "ends-one : (c : ℕ)", "axiom ends-one : (c : ℕ)")],
+        edits: &[edit("counts", "Requests.antt", "ends_one : (c : ℕ)", "axiom ends_one : (c : ℕ)")],
         mentions: "has an axiom",
     },
     Weakening {
@@ -417,18 +417,18 @@ const WEAKENINGS: &[Weakening] = &[
         edits: &[edit(
             "verdict",
             "OnlyOne.antt",
-            "  pub one-verdict : (v v′ : Verdict) → Judges (takenFor s) v → Judges (takenFor s) v′ → v ≡ v′\n  one-verdict v",
-            "  pub single-verdict : (v v′ : Verdict) → Judges (takenFor s) v → Judges (takenFor s) v′ → v ≡ v′\n  single-verdict v",
+            "  pub one_verdict : (v v' : Verdict) → Judges (taken_for s) v → Judges (taken_for s) v' → v ≡ v'\n  one_verdict v",
+            "  pub single_verdict : (v v' : Verdict) → Judges (taken_for s) v → Judges (taken_for s) v' → v ≡ v'\n  single_verdict v",
         )],
-        mentions: "one-verdict",
+        mentions: "one_verdict",
     },
     Weakening {
         label: "a theorem that is only a type's definition",
         edits: &[edit(
             "protocol",
             "Atomic.antt",
-            "  pub atomic : (v : View) → Reached S v → Tagged (v .ops)\n  atomic v r = tagged S v (reached-keeps r)",
-            "  abbrev pub atomic : Type 0\n  atomic = (v : View) → Reached S v → Tagged (v .ops)",
+            "  pub atomic : (v : View) → Reached S v → Tagged v.ops\n  atomic v r = tagged S v (reached_keeps r)",
+            "  abbrev pub atomic : Type 0\n  atomic = (v : View) → Reached S v → Tagged v.ops",
         )],
         mentions: "atomic",
     },
@@ -437,8 +437,8 @@ const WEAKENINGS: &[Weakening] = &[
         edits: &[edit(
             "protocol",
             "Atomic.antt",
-            "  pub atomic : (v : View) → Reached S v → Tagged (v .ops)\n  atomic v r = tagged S v (reached-keeps r)",
-            "  pub record Claims : Type 0 where\n    pub atomic : (v : View) → Reached S v → Tagged (v .ops)",
+            "  pub atomic : (v : View) → Reached S v → Tagged v.ops\n  atomic v r = tagged S v (reached_keeps r)",
+            "  pub record Claims : Type 0 where\n    pub atomic : (v : View) → Reached S v → Tagged v.ops",
         )],
         mentions: "atomic",
     },
@@ -447,15 +447,15 @@ const WEAKENINGS: &[Weakening] = &[
         edits: &[edit(
             "protocol",
             "Atomic.antt",
-            "  pub atomic : (v : View) → Reached S v → Tagged (v .ops)\n  atomic v r = tagged S v (reached-keeps r)",
-            "  axiom pub atomic : (v : View) → Reached S v → Tagged (v .ops)",
+            "  pub atomic : (v : View) → Reached S v → Tagged v.ops\n  atomic v r = tagged S v (reached_keeps r)",
+            "  axiom pub atomic : (v : View) → Reached S v → Tagged v.ops",
         )],
         mentions: "atomic has no proof",
     },
     Weakening {
         label: "a theorem taken off the page of promises",
-        edits: &[edit("", "docs/PROMISES.md", "| `promise-fresh` (Promise.antt) |", "| |")],
-        mentions: "promise-fresh",
+        edits: &[edit("", "docs/PROMISES.md", "| `promise_fresh` (Promise.antt) |", "| |")],
+        mentions: "promise_fresh",
     },
     Weakening {
         label: "a call taken off the page of promises",
@@ -486,14 +486,14 @@ const WEAKENINGS: &[Weakening] = &[
     Weakening {
         label: "a file that a page names and that isn't there",
         edits: &[
-            edit("", "docs/WHY-IT-HOLDS.md", "`atomic` (crates/protocol/specs/laws/Atomic.antt)", "`atomic` (crates/protocol/specs/laws/Atom.antt)"),
+            edit("", "docs/WHY-IT-HOLDS.md", "`atomic` (crates/protocol/proofs/theorems/Atomic.antt)", "`atomic` (crates/protocol/proofs/theorems/Atom.antt)"),
         ],
-        mentions: "there is no crates/protocol/specs/laws/Atom.antt",
+        mentions: "there is no crates/protocol/proofs/theorems/Atom.antt",
     },
     Weakening {
         label: "a theorem that isn't in the file that a page names",
         edits: &[
-            edit("", "docs/WHY-IT-HOLDS.md", "`atomic` (crates/protocol/specs/laws/Atomic.antt)", "`atom` (crates/protocol/specs/laws/Atomic.antt)"),
+            edit("", "docs/WHY-IT-HOLDS.md", "`atomic` (crates/protocol/proofs/theorems/Atomic.antt)", "`atom` (crates/protocol/proofs/theorems/Atomic.antt)"),
         ],
         mentions: "Atomic.antt doesn't declare atom",
     },
@@ -521,7 +521,8 @@ impl Copy {
             ["crates.txt", "README.md", "docs/PROMISES.md", "docs/STATEMENTS.txt"].map(String::from).to_vec();
         files.extend(paths::PAGES.map(String::from));
         for ending in [".antt", ".rt", ".edit"] {
-            files.extend(files_below(root, "crates", ending)?.into_iter().map(|(file, _)| file));
+            let all = files_below(root, "crates", ending)?.into_iter().map(|(file, _)| file);
+            files.extend(all.filter(|file| file.split('/').nth(2) != Some("out")));
         }
         for file in files {
             let to = copy.root.join(&file);
@@ -541,7 +542,8 @@ impl Copy {
             return with_text(vec![self.root.join(edit.file)], edit.old);
         }
         let base = self.root.join("crates").join(edit.krate);
-        let all = [files_below(&base, "specs", ".antt")?, files_below(&base, "src", ".rt")?].concat();
+        let definitions = [files_below(&base, "specs", ".antt")?, files_below(&base, "proofs", ".antt")?].concat();
+        let all = [definitions, files_below(&base, "src", ".rt")?].concat();
         let (named, others): (Vec<_>, Vec<_>) =
             all.into_iter().map(|(_, path)| path).partition(|path| path.ends_with(edit.file));
         match with_text(named, edit.old)? {
