@@ -1,13 +1,12 @@
 -- The tie: which view of crate protocol stands for a rack, and what each message on its wire then means. An operation has the number of its start
 -- entry, as in the record.
-use Rattle.std.specs.Prelude.{ℕ, ◌≤◌, ◌<◌, ◌≡◌, ◌≢◌, Bool, true, false, cond, List, leb, ℤ, pos, length}
+use Rattle.std.specs.Prelude.{ℕ, ◌≤◌, ◌≡◌, ◌≢◌, Bool, true, false, cond, List, leb, ℤ, pos, length}
 use Rattle.rack.specs.declared.Rack.{Rack}
-use Rattle.rack.specs.Sound.{quorums_of}
 use Rattle.protocol.specs.View.{View, Setting, Pair as Seen, Op, zero_pair}
 use Rattle.record.specs.declared.Cell.{Cell}
 use Rattle.record.specs.Entry.{client_limit}
 use Rattle.record.specs.Record.{entry_limit}
-use Rattle.law.specs.Operation.{Op as Recorded, operations}
+use Rattle.law.specs.Operation.{Op as Recorded}
 use Rattle.law.specs.Order.{In}
 use Rattle.stamps.specs.declared.Pair.{Pair}
 use Rattle.stamps.specs.StampOrder.{stamp_of}
@@ -25,10 +24,8 @@ use Rattle.method.specs.declared.Holding.TheVariants.{NoPair, Holds}
 use Rattle.method.specs.declared.Phase.{Phase}
 use Rattle.method.specs.declared.Phase.TheVariants.{Asking, Keeping}
 use Rattle.method.specs.declared.Operation.{Operation}
-use Rattle.rack.specs.Places.{pair_limit, party_at, pair_at, held_at, record_of}
+use Rattle.rack.specs.Places.{pair_limit, party_at}
 use Rattle.protocol.specs.Message.{Tell as Told, Keep as Chose, Kept as Has}
-use Rattle.protocol.specs.Move.{Reached}
-use Rattle.promise.specs.Setting.{setting_of}
 
 -- a pair as the view sees it
 abbrev pub pair_of : Pair → Seen
@@ -128,25 +125,3 @@ pub record Long (r : Rack) : Type 0 where
   pub parties : length r.parties ≡ client_limit
   pub pairs : length r.pairs ≡ pair_limit
   pub lines : length r.lines ≡ entry_limit
-
--- the view v stands for the rack r, and name says which operation of it a client's operation number is
-pub record Tie (r : Rack) (v : View) (name : ℕ → ℕ → ℕ) : Type 0 where
-  pub long : Long r
-  -- legal moves lead to the view
-  pub reached : Reached (setting_of (quorums_of r.settings)) v
-  -- its time is the number of entries
-  pub now : v.now ≡ r.count
-  -- every client is at what its operation is at
-  pub clients : (c : ℕ) → c < r.settings.clients → At v.ops c (name c (op_of r c)) (party_at r c).work
-  -- every pair is the view's
-  pub pairs : (k x : ℕ) → k < r.settings.replicas → x < r.settings.cells → v.pair k x ≡ pair_of (pair_at r k x)
-  -- every message on the wire means something true
-  pub wire : (i : ℕ) → Holding (OnWire (setting_of (quorums_of r.settings)) v name (op_of r)) (held_at r i)
-  -- the record shows the operations
-  pub book : Book v.ops (operations (record_of r))
-
--- some view stands for the rack
-pub record Tied (r : Rack) : Type 0 where
-  pub view : View
-  pub name : ℕ → ℕ → ℕ
-  pub tie : Tie r view name

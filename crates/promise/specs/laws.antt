@@ -1,19 +1,6 @@
 -- Laws: what is proved, and the definitions that only proofs need.
-pub mod SettingLaws
-pub mod Pairs
 pub mod Record
 pub mod Clients
 pub mod Wire
-pub mod Next
-pub mod Slot
-pub mod Quiet
-pub mod Taking
 pub mod Moves
-pub mod Advance
-pub mod Hearing
-pub mod Counting
-pub mod Starting
-pub mod Runs
-pub mod Lawful
-pub mod Promise
 pub mod Meeting

@@ -14,10 +14,10 @@ use Rattle.rack.specs.Sound.{settings_fit}
 use Rattle.rack.specs.laws.Fresh.{made_sound}
 use Rattle.rack.specs.Run.{fresh_rack, made_of, ran_of, run_of}
 use Rattle.promise.specs.Reached.{Reached}
-use Rattle.promise.specs.laws.Promise.{promise_reached}
+use Rattle.promise.proofs.theorems.Promise.{promise_reached}
 use Rattle.back.specs.Standing.{Agrees}
-use Rattle.back.specs.laws.Agrees.{run_agrees, made_agrees, agrees_legal}
-use Rattle.back.specs.laws.Back.{legal_back}
+use Rattle.back.proofs.theorems.Agrees.{run_agrees, made_agrees, agrees_legal}
+use Rattle.back.proofs.theorems.Back.{legal_back}
 use Rattle.script.specs.declared.Words.{Words}
 use Rattle.script.specs.declared.Words.TheVariants.{Are}
 use Rattle.script.specs.Script.{events_from, words_of, script_of}

@@ -1,5 +1,5 @@
 -- The run is the definition's, so the promise holds of it.
-use Rattle.promise.specs.laws.Promise.{promise}
+use Rattle.promise.proofs.theorems.Promise.{promise}
 use Rattle.promise.proofs.run_fresh.Goals as goal
 
 pub returns : goal.returns

@@ -27,8 +27,8 @@ use Rattle.lent.specs.Called.{Called, made, ran}
 use Rattle.lent.specs.Handed.{rows_in}
 use Rattle.lent.specs.laws.Read.{count_is, read_writable, made_fresh}
 use Rattle.lent.specs.laws.Again.{made_reads_again, some_done}
-use Rattle.lent.specs.laws.Calls.{called_long, called_led, calls_read_back, called_reads_again}
-use Rattle.lent.specs.laws.Twice.{run_none, run_some}
+use Rattle.lent.proofs.theorems.Calls.{called_long, called_led, calls_read_back, called_reads_again}
+use Rattle.lent.proofs.theorems.Twice.{run_none, run_some}
 
 -- ---- each row stands at its place
 

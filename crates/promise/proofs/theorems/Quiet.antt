@@ -24,11 +24,12 @@ use Rattle.protocol.specs.Message.{Tell as Told}
 use Rattle.protocol.proofs.theorems.Stays.{tell_true}
 use Rattle.protocol.proofs.theorems.Atomic.{reached_keeps}
 use Rattle.promise.specs.Setting.{setting_of}
-use Rattle.promise.specs.laws.SettingLaws.{only, nobody}
-use Rattle.promise.specs.Tie.{pair_of, open_phase, Stands, At, Means, op_of, Tie}
+use Rattle.promise.proofs.theorems.SettingLaws.{only, nobody}
+use Rattle.promise.specs.Tie.{pair_of, open_phase, Stands, At, Means, op_of}
+use Rattle.promise.proofs.theorems.Tied.{Tie}
 use Rattle.promise.specs.laws.Record.{none_added, record_same}
-use Rattle.promise.specs.laws.Next.{Sends, says_sends, at_still, Next}
-use Rattle.promise.specs.laws.Slot.{Found, found, pairs_same}
+use Rattle.promise.proofs.theorems.Next.{Sends, says_sends, at_still, Next}
+use Rattle.promise.proofs.theorems.Slot.{Found, found, pairs_same}
 
 module _ (r : Rack) (e : Event) (v : View) (name : ℕ → ℕ → ℕ) (t : Tie r v name) (l : Looked r e) where
   -- the setting of this rack: its sets of replicas, its quorums and its stamps

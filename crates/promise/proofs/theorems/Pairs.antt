@@ -15,7 +15,7 @@ use Rattle.method.specs.declared.Goal.TheVariants.{Read, Write}
 use Rattle.protocol.specs.View.{Pair as Seen}
 use Rattle.protocol.specs.Move.{newer, held_of, chosen_of, newer_of}
 use Rattle.promise.specs.Setting.{setting_of}
-use Rattle.promise.specs.laws.SettingLaws.{next_stamp}
+use Rattle.promise.proofs.theorems.SettingLaws.{next_stamp}
 use Rattle.method.specs.Holding.{holds}
 use Rattle.method.specs.Method.{Written, Chosen}
 use Rattle.promise.specs.Tie.{pair_of, held_in, open_with}

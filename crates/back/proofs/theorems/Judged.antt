@@ -38,12 +38,12 @@ use Rattle.rack.specs.laws.Decided.{decided_does}
 use Rattle.rack.specs.laws.Fresh.{made_sound}
 use Rattle.runs.specs.laws.Stays.{sound_stays}
 use Rattle.runs.specs.laws.Steps.{run_from_lem}
-use Rattle.promise.specs.laws.Promise.{promise}
+use Rattle.promise.proofs.theorems.Promise.{promise}
 use Rattle.back.specs.Standing.{Agrees}
 use Rattle.back.specs.Writes.{writes_by, writes_of, Differ}
 use Rattle.back.specs.laws.Lines.{added}
-use Rattle.back.specs.laws.Agrees.{record_next, agree_stays, event_small, made_agrees, made_empty, run_legal}
-use Rattle.back.specs.laws.Back.{taken_legal}
+use Rattle.back.proofs.theorems.Agrees.{record_next, agree_stays, event_small, made_agrees, made_empty, run_legal}
+use Rattle.back.proofs.theorems.Back.{taken_legal}
 
 -- ---- entries without a repeat
 

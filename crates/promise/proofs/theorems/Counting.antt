@@ -29,14 +29,15 @@ use Rattle.protocol.specs.View.{Setting, Op, View}
 use Rattle.protocol.specs.Message.{Kept as Has}
 use Rattle.protocol.specs.Move.{count, finish, counted, ended, changed}
 use Rattle.promise.specs.Setting.{setting_of}
-use Rattle.promise.specs.laws.SettingLaws.{keep_enough}
-use Rattle.promise.specs.Tie.{pair_of, open_with, open_phase, Past, Stands, At, op_of, Book, Tie}
+use Rattle.promise.proofs.theorems.SettingLaws.{keep_enough}
+use Rattle.promise.specs.Tie.{pair_of, open_with, open_phase, Past, Stands, At, op_of, Book}
+use Rattle.promise.proofs.theorems.Tied.{Tie}
 use Rattle.promise.specs.laws.Record.{none_added, ended_added, record_length, record_ended, operations_after, book_end}
 use Rattle.promise.specs.laws.Clients.{stands_on, idle_now}
-use Rattle.promise.specs.laws.Next.{Next}
-use Rattle.promise.specs.laws.Slot.{Found, found}
+use Rattle.promise.proofs.theorems.Next.{Next}
+use Rattle.promise.proofs.theorems.Slot.{Found, found}
 use Rattle.promise.specs.laws.Moves.{Moved, moved, moved_on}
-use Rattle.promise.specs.laws.Advance.{advance, book_on, no_note, sends_none}
+use Rattle.promise.proofs.theorems.Advance.{advance, book_on, no_note, sends_none}
 
 module _ (r : Rack) (e : Event) (m : Message) (v : View) (name : ℕ → ℕ → ℕ) (t : Tie r v name) (l : Looked r e)
     (here : looked_held r e ≡ Full m) (own : m.client.0 ≡ looked_client r e) (h : Counted (sight r e) m) where

@@ -14,12 +14,13 @@ use Rattle.rack.specs.Run.{entries_in, applied_of}
 use Rattle.rack.specs.Looking.{looked_client, looked_pair}
 use Rattle.protocol.specs.View.{Setting, Op, View}
 use Rattle.promise.specs.Setting.{setting_of}
-use Rattle.promise.specs.laws.SettingLaws.{nobody}
-use Rattle.promise.specs.Tie.{At, op_of, shown, Book, Tie}
+use Rattle.promise.proofs.theorems.SettingLaws.{nobody}
+use Rattle.promise.specs.Tie.{At, op_of, shown, Book}
+use Rattle.promise.proofs.theorems.Tied.{Tie}
 use Rattle.promise.specs.laws.Record.{record_same, book_same}
 use Rattle.promise.specs.laws.Clients.{at_other}
-use Rattle.promise.specs.laws.Next.{Sends, Next}
-use Rattle.promise.specs.laws.Slot.{pairs_same}
+use Rattle.promise.proofs.theorems.Next.{Sends, Next}
+use Rattle.promise.proofs.theorems.Slot.{pairs_same}
 use Rattle.promise.specs.laws.Moves.{Moved}
 
 module _ (r : Rack) (e : Event) (p : Plan) (v : View) (name : ℕ → ℕ → ℕ) (t : Tie r v name) where

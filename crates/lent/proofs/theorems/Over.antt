@@ -20,7 +20,7 @@ use Rattle.layout.specs.laws.PlaceLaws.{Stands}
 use Rattle.layout.specs.laws.Trip.{party_long, pair_long, slot_long}
 use Rattle.layout.specs.laws.Again.{head_stands, party_stands, pair_stands, slot_stands, row_stands}
 use Rattle.lent.specs.laws.Away.{Away, away_stays}
-use Rattle.lent.specs.laws.Calls.{written_long}
+use Rattle.lent.proofs.theorems.Calls.{written_long}
 
 -- ---- each word
 

@@ -18,7 +18,7 @@ use Rattle.rack.specs.Places.{of_sizes, record_of}
 use Rattle.rack.specs.Sound.{sound_of}
 use Rattle.rack.specs.Run.{made_of, run_of}
 use Rattle.back.specs.Standing.{Agrees}
-use Rattle.back.specs.laws.Agrees.{run_legal_from, run_legal}
+use Rattle.back.proofs.theorems.Agrees.{run_legal_from, run_legal}
 use Rattle.back.specs.Reading.{ReadsBack}
 
 -- after reading the judge refuses with 29 only

@@ -22,8 +22,8 @@ use Rattle.lent.specs.Together.{together}
 use Rattle.lent.specs.laws.Whole.{whole}
 use Rattle.lent.specs.laws.Stays.{small_of, run_keeps}
 use Rattle.lent.specs.laws.Again.{none_done, some_done, after_sound, after_writable}
-use Rattle.lent.specs.laws.Calls.{written_long}
-use Rattle.lent.specs.laws.Over.{written_over}
+use Rattle.lent.proofs.theorems.Calls.{written_long}
+use Rattle.lent.proofs.theorems.Over.{written_over}
 
 -- ---- sizes stay, and entries too
 

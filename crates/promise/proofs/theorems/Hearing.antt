@@ -29,16 +29,17 @@ use Rattle.rack.specs.Looking.{looked_held, looked_client, sight}
 use Rattle.protocol.specs.View.{Setting, Op, View}
 use Rattle.protocol.specs.Message.{Tell as Told, Keep as Chose}
 use Rattle.protocol.specs.Move.{hear, choose, heard, keeping as chose, changed}
-use Rattle.promise.specs.laws.SettingLaws.{fits_ranked, ask_enough}
+use Rattle.promise.proofs.theorems.SettingLaws.{fits_ranked, ask_enough}
 use Rattle.promise.specs.Setting.{setting_of}
-use Rattle.promise.specs.Tie.{pair_of, held_in, open_with, open_phase, Stands, At, op_of, Tie}
-use Rattle.promise.specs.laws.Pairs.{HeldRanked, holds_seen, holds_rank, chosen_seen}
+use Rattle.promise.specs.Tie.{pair_of, held_in, open_with, open_phase, Stands, At, op_of}
+use Rattle.promise.proofs.theorems.Tied.{Tie}
+use Rattle.promise.proofs.theorems.Pairs.{HeldRanked, holds_seen, holds_rank, chosen_seen}
 use Rattle.promise.specs.laws.Record.{none_added}
 use Rattle.promise.specs.laws.Clients.{stands_on}
-use Rattle.promise.specs.laws.Next.{Sends, says_sends, Next}
-use Rattle.promise.specs.laws.Slot.{Found, found}
+use Rattle.promise.proofs.theorems.Next.{Sends, says_sends, Next}
+use Rattle.promise.proofs.theorems.Slot.{Found, found}
 use Rattle.promise.specs.laws.Moves.{Moved, moved, moved_on}
-use Rattle.promise.specs.laws.Advance.{advance, book_on, no_note, sends_none}
+use Rattle.promise.proofs.theorems.Advance.{advance, book_on, no_note, sends_none}
 
 -- what fits a rack has a rank that a client has
 held_ranked : (z : Settings) → Sized z → (set : ℕ) (held : Held) → HoldingFits z set held → HeldRanked set held

@@ -19,7 +19,8 @@ use Rattle.rack.specs.laws.Decided.{Looked}
 use Rattle.rack.specs.Looking.{looked_held, looked_client, looked_place, looked_pair}
 use Rattle.protocol.specs.View.{Setting, View}
 use Rattle.promise.specs.Setting.{setting_of}
-use Rattle.promise.specs.Tie.{pair_of, Means, OnWire, Holding, op_of, Tie}
+use Rattle.promise.specs.Tie.{pair_of, Means, OnWire, Holding, op_of}
+use Rattle.promise.proofs.theorems.Tied.{Tie}
 
 place_of : (h : InSlot) (m : Message) → h ≡ Full m → place_in h ≡ pair_place m.replica.0 m.cell.0
 unfolding place_in

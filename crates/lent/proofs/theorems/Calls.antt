@@ -17,11 +17,11 @@ use Rattle.rack.specs.laws.Fresh.{made_sound}
 use Rattle.rack.specs.Run.{made_of, run_of}
 use Rattle.runs.specs.laws.Parts.{run_stays}
 use Rattle.promise.specs.Reached.{Reached}
-use Rattle.promise.specs.laws.Promise.{promise_reached}
+use Rattle.promise.proofs.theorems.Promise.{promise_reached}
 use Rattle.back.specs.Standing.{Agrees}
 use Rattle.back.specs.Reading.{ReadsBack}
-use Rattle.back.specs.laws.Agrees.{run_agrees, made_agrees, agrees_legal}
-use Rattle.back.specs.laws.Back.{legal_back}
+use Rattle.back.proofs.theorems.Agrees.{run_agrees, made_agrees, agrees_legal}
+use Rattle.back.proofs.theorems.Back.{legal_back}
 use Rattle.layout.specs.Layout.{word_count, party_place, pair_place, slot_place, entry_place}
 use Rattle.layout.specs.Reading.{rack_of}
 use Rattle.layout.specs.Writing.{party_words, slot_words, head_of, parties_put, pair_written, pairs_put, wire_put, entry_in, record_put, written_of}

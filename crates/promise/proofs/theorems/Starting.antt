@@ -25,16 +25,17 @@ use Rattle.rack.specs.laws.Decided.{Looked}
 use Rattle.rack.specs.Looking.{looked_client, sight}
 use Rattle.protocol.specs.View.{Setting, Op, View}
 use Rattle.protocol.specs.Move.{start, changed}
-use Rattle.promise.specs.laws.SettingLaws.{client_rank}
+use Rattle.promise.proofs.theorems.SettingLaws.{client_rank}
 use Rattle.promise.specs.Setting.{setting_of}
 use Rattle.method.specs.Plan.{to_replicas, active_party, planned, asked}
 use Rattle.method.specs.Holding.{first_entry}
-use Rattle.promise.specs.Tie.{writes, value_of, open_at, Past, At, Means, op_of, Book, Tie}
+use Rattle.promise.specs.Tie.{writes, value_of, open_at, Past, At, Means, op_of, Book}
+use Rattle.promise.proofs.theorems.Tied.{Tie}
 use Rattle.promise.specs.laws.Record.{asked_added, record_length, record_asked, operations_after, begun_below, book_start}
 use Rattle.promise.specs.laws.Clients.{at_other, stands_on}
 use Rattle.promise.specs.laws.Wire.{named, named_here, named_else}
-use Rattle.promise.specs.laws.Next.{Sends, says_sends, Next}
-use Rattle.promise.specs.laws.Slot.{pairs_same}
+use Rattle.promise.proofs.theorems.Next.{Sends, says_sends, Next}
+use Rattle.promise.proofs.theorems.Slot.{pairs_same}
 use Rattle.promise.specs.laws.Moves.{Moved, moved}
 
 module _ (r : Rack) (e : Event) (cell : Cell) (goal : Goal) (v : View) (name : ℕ → ℕ → ℕ) (t : Tie r v name) (l : Looked r e) (z : Sized r.settings)

@@ -10,9 +10,9 @@ use Rattle.rack.specs.Sound.{settings_fit, quorums_of}
 use Rattle.rack.specs.Run.{fresh_rack, made_of, run_of}
 use Rattle.protocol.proofs.theorems.Atomic.{atomic}
 use Rattle.promise.specs.Setting.{setting_of}
-use Rattle.promise.specs.laws.Lawful.{shown_lawful}
-use Rattle.promise.specs.Tie.{Tied}
-use Rattle.promise.specs.laws.Runs.{run_tied, fresh_tied}
+use Rattle.promise.proofs.theorems.Lawful.{shown_lawful}
+use Rattle.promise.proofs.theorems.Tied.{Tied}
+use Rattle.promise.proofs.theorems.Runs.{run_tied, fresh_tied}
 use Rattle.promise.specs.Reached.{Reached, made, ran}
 
 -- the record of a rack that a view stands for

@@ -28,7 +28,8 @@ use Rattle.rack.specs.Looking.{looked_client, looked_party, looked_place}
 use Rattle.protocol.specs.View.{Setting, Op, View}
 use Rattle.protocol.specs.Move.{Reached}
 use Rattle.promise.specs.Setting.{setting_of}
-use Rattle.promise.specs.Tie.{pair_of, At, Means, OnWire, Holding, op_of, Book, Tie}
+use Rattle.promise.specs.Tie.{pair_of, At, Means, OnWire, Holding, op_of, Book}
+use Rattle.promise.proofs.theorems.Tied.{Tie}
 use Rattle.promise.specs.laws.Wire.{cleared_all, sent_all, addressed_of}
 
 -- what the plan sends, whoever it goes to: of client c, about cell x, for operation number o, with body b

@@ -25,15 +25,16 @@ use Rattle.protocol.specs.laws.Place.{put_one}
 use Rattle.protocol.proofs.theorems.Steps.{step}
 use Rattle.protocol.proofs.theorems.Stays.{kept_true}
 use Rattle.protocol.proofs.theorems.Atomic.{reached_keeps}
-use Rattle.promise.specs.laws.SettingLaws.{fits_ranked, only}
+use Rattle.promise.proofs.theorems.SettingLaws.{fits_ranked, only}
 use Rattle.promise.specs.Setting.{setting_of}
 use Rattle.method.specs.Plan.{answered}
-use Rattle.promise.specs.Tie.{pair_of, Tie}
-use Rattle.promise.specs.laws.Pairs.{raised_seen}
+use Rattle.promise.specs.Tie.{pair_of}
+use Rattle.promise.proofs.theorems.Tied.{Tie}
+use Rattle.promise.proofs.theorems.Pairs.{raised_seen}
 use Rattle.promise.specs.laws.Record.{none_added, record_same}
 use Rattle.promise.specs.laws.Wire.{means_stays}
-use Rattle.promise.specs.laws.Next.{Sends, says_sends, Next}
-use Rattle.promise.specs.laws.Slot.{Got, Found, found}
+use Rattle.promise.proofs.theorems.Next.{Sends, says_sends, Next}
+use Rattle.promise.proofs.theorems.Slot.{Got, Found, found}
 
 module _ (r : Rack) (e : Event) (m : Message) (given : Pair) (v : View) (name : ℕ → ℕ → ℕ) (t : Tie r v name) (l : Looked r e) (z : Sized r.settings)
     (got : Got (looked_client r e) (looked_held r e) m (Keep given)) where

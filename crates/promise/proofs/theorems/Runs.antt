@@ -44,13 +44,14 @@ use Rattle.runs.specs.laws.Stays.{stays}
 use Rattle.protocol.specs.View.{View}
 use Rattle.protocol.specs.Move.{fresh, first}
 use Rattle.promise.specs.laws.Record.{asked_added, ended_added}
-use Rattle.promise.specs.laws.Next.{Next, tie_next}
-use Rattle.promise.specs.laws.Quiet.{rests_next, copies_next, tells_next, resends_next}
-use Rattle.promise.specs.laws.Taking.{takes_next}
-use Rattle.promise.specs.laws.Hearing.{hears_next, chooses_next}
-use Rattle.promise.specs.laws.Counting.{counts_next, ends_next}
-use Rattle.promise.specs.laws.Starting.{start_plan, starts_next}
-use Rattle.promise.specs.Tie.{op_of, Tied}
+use Rattle.promise.proofs.theorems.Next.{Next, tie_next}
+use Rattle.promise.proofs.theorems.Quiet.{rests_next, copies_next, tells_next, resends_next}
+use Rattle.promise.proofs.theorems.Taking.{takes_next}
+use Rattle.promise.proofs.theorems.Hearing.{hears_next, chooses_next}
+use Rattle.promise.proofs.theorems.Counting.{counts_next, ends_next}
+use Rattle.promise.proofs.theorems.Starting.{start_plan, starts_next}
+use Rattle.promise.specs.Tie.{op_of}
+use Rattle.promise.proofs.theorems.Tied.{Tied}
 
 -- ---- an event
 

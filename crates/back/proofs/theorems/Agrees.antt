@@ -44,7 +44,7 @@ use Rattle.runs.specs.laws.Stays.{set_either, stays, sound_stays}
 use Rattle.runs.specs.laws.Steps.{run_from_lem}
 use Rattle.back.specs.Standing.{open_in, Within, AllWithin, PairSmall, BodySmall, HeldSmall, WorkSmall, FitsWords, Agrees, EventSmall}
 use Rattle.back.specs.laws.Lines.{added, applied_adds, count_long}
-use Rattle.back.specs.laws.Plans.{whose, needs, leaves, Enters, Noted, Keeps, plan_keeps}
+use Rattle.back.proofs.theorems.Plans.{whose, needs, leaves, Enters, Noted, Keeps, plan_keeps}
 
 -- ---- one entry more
 

@@ -1,0 +1,5 @@
+-- What is proved of the definitions.
+pub mod Agrees
+pub mod Back
+pub mod Judged
+pub mod Plans
