@@ -11,7 +11,7 @@ use Rattle.method.specs.declared.Party.{Party}
 use Rattle.rack.specs.declared.Rack.{Rack}
 use Rattle.method.specs.declared.Operation.{Operation}
 use Rattle.layout.specs.laws.PlaceLaws.{first_long}
-use Rattle.layout.specs.laws.Trip.{open_long}
+use Rattle.layout.proofs.theorems.Trip.{open_long}
 use Rattle.layout.specs.Writing.{open_words, phase_word, held_words, operation_words, work_words, flag, party_words, body_kind, body_words, slot_words}
 use Rattle.layout.specs.Writing.{put_firsts, head_of, parties_put, pairs_put, wire_put, record_put, written_of}
 

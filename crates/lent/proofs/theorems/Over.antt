@@ -17,8 +17,8 @@ use Rattle.rack.specs.laws.SoundLaws.{sound_of_lem}
 use Rattle.layout.specs.Layout.{head_size, party_size, pair_size, slot_size, entry_size, word_count, party_place, pair_place, slot_place, entry_place, word}
 use Rattle.layout.specs.Writing.{party_words, slot_words, pair_written, entry_in, written_of}
 use Rattle.layout.specs.laws.PlaceLaws.{Stands}
-use Rattle.layout.specs.laws.Trip.{party_long, pair_long, slot_long}
-use Rattle.layout.specs.laws.Again.{head_stands, party_stands, pair_stands, slot_stands, row_stands}
+use Rattle.layout.proofs.theorems.Trip.{party_long, pair_long, slot_long}
+use Rattle.layout.proofs.theorems.Again.{head_stands, party_stands, pair_stands, slot_stands, row_stands}
 use Rattle.lent.specs.laws.Away.{Away, away_stays}
 use Rattle.lent.proofs.theorems.Calls.{written_long}
 

@@ -21,7 +21,7 @@ use Rattle.layout.specs.Layout.{word_count, entry_place, word}
 use Rattle.layout.specs.Reading.{rack_of}
 use Rattle.layout.specs.Writing.{entry_in, written_of}
 use Rattle.layout.specs.laws.PlaceLaws.{Stands}
-use Rattle.layout.specs.laws.Again.{row_stands}
+use Rattle.layout.proofs.theorems.Again.{row_stands}
 use Rattle.layout.specs.Calls.{WordsOutcome, run_outcome}
 use Rattle.lent.specs.Called.{Called, made, ran}
 use Rattle.lent.specs.Handed.{rows_in}

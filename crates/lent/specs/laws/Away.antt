@@ -12,7 +12,7 @@ use Rattle.rack.specs.Places.{slot_limit, party_at, held_at}
 use Rattle.layout.specs.Layout.{head_size, party_size, pair_size, slot_size, entry_size, party_place, pair_place, slot_place, entry_place, word}
 use Rattle.layout.specs.Writing.{pair_words, party_words, slot_words, put_firsts, head_of, parties_put, pair_written, pairs_put, wire_put, entry_in, record_put, written_of}
 use Rattle.layout.specs.laws.PlaceLaws.{sets_below}
-use Rattle.layout.specs.laws.Trip.{party_long, pair_long, slot_long}
+use Rattle.layout.proofs.theorems.Trip.{party_long, pair_long, slot_long}
 
 -- ---- one part, and parts in a row
 

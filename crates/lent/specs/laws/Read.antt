@@ -32,7 +32,7 @@ use Rattle.layout.specs.Reading.{line_known, line_in, lines_in, entry_count, cou
 use Rattle.layout.specs.Writing.{entry_in}
 use Rattle.layout.specs.laws.Firsts.{firsts_long, firsts_at}
 use Rattle.layout.specs.State.{State}
-use Rattle.layout.specs.laws.StateLaws.{state_of}
+use Rattle.layout.proofs.theorems.StateLaws.{state_of}
 use Rattle.layout.specs.laws.Trip.{entry_fits}
 use Rattle.layout.specs.laws.Small.{TagSmall}
 use Rattle.lent.specs.laws.Whole.{Beyond, lines_in_long, lines_in_beyond}

@@ -24,7 +24,8 @@ use Rattle.layout.specs.Layout.{party_size, work_size, pair_size, word_count, pa
 use Rattle.layout.specs.Reading.{pair_in, operation_in, work_in, party_in, slot_in, line_in, lines_in, entry_count, rack_of}
 use Rattle.layout.specs.Writing.{written_of}
 use Rattle.layout.specs.laws.Firsts.{firsts_long, firsts_at}
-use Rattle.layout.specs.laws.Again.{Sayable, Again, head_stands, written_again}
+use Rattle.layout.specs.laws.Again.{Sayable, Again}
+use Rattle.layout.proofs.theorems.Again.{head_stands, written_again}
 use Rattle.lent.specs.laws.Away.{away_stays}
 
 -- ---- parts that are read from the same words
