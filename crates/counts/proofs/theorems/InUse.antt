@@ -17,7 +17,7 @@ use Rattle.rack.specs.Counts.{sent_by, delivered_by}
 use Rattle.runs.specs.laws.Stays.{sound_stays}
 use Rattle.runs.specs.laws.Loop.{applied_wire, room_after}
 use Rattle.counts.specs.Counts.{in_use, copied_by, lost_by, tally_of}
-use Rattle.counts.specs.laws.PlanCounts.{decided_counts}
+use Rattle.counts.proofs.theorems.PlanCounts.{decided_counts}
 use Rattle.counts.specs.laws.Runs.{both, Adds, run_adds, unsound_none, made_fresh}
 
 -- ---- slots in use and free slots

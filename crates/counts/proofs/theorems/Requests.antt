@@ -29,7 +29,7 @@ use Rattle.runs.specs.laws.Stays.{stays, sound_stays}
 use Rattle.runs.specs.laws.Loop.{applied_parties}
 use Rattle.counts.specs.Counts.{total_of, requests_by, resent_by, cost_in, cost_of, ends_by, ends_of, made_rack, rack_after}
 use Rattle.counts.specs.laws.Costing.{resent_none}
-use Rattle.counts.specs.laws.PlanCounts.{ends_in, PlanCounts, decided_counts}
+use Rattle.counts.proofs.theorems.PlanCounts.{ends_in, PlanCounts, decided_counts}
 use Rattle.counts.specs.laws.Runs.{Adds, run_adds, made_fresh}
 
 -- ---- the record after an event

@@ -1,0 +1,4 @@
+-- What is proved of the definitions.
+pub mod PlanCounts
+pub mod InUse
+pub mod Requests
