@@ -5,4 +5,3 @@ pub mod Parts
 pub mod Sending
 pub mod Loop
 pub mod Ordered
-pub mod OnlyOne
