@@ -10,7 +10,7 @@ use lib.Pow.{shl_exact, pow_pos, pow_mono}
 use borrow.Author.Tests.{lt-ltb}
 use Rattle.slots.specs.laws.Bits.{trailing_lt, trailing_room}
 use Rattle.quorum.specs.Sets.{set_bits, has_replica, with_replica, every_replica, within, without_replica, lowest_of, rest_of}
-use Rattle.quorum.specs.laws.SetLaws.{has_beyond, has_below, with_beyond, bit_at_most}
+use Rattle.quorum.proofs.theorems.SetLaws.{has_beyond, has_below, with_beyond, bit_at_most}
 
 pub one_shl : (k : ℕ) → k < set_bits → 1 * 2 ^ k % 2 ^ set_bits ≡ 2 ^ k
 one_shl k h = shl_exact {a = 1} 1 k set_bits (omega arith) (omega arith) ∙ one-mul _

@@ -7,7 +7,7 @@ use Rattle.std.specs.Int.Count.{ones}
 use Rattle.record.specs.declared.Client.{Client}
 use Rattle.record.specs.declared.Cell.{Cell}
 use Rattle.quorum.specs.Sets.{set_bits, with_replica, every_replica}
-use Rattle.quorum.specs.laws.SetLaws.{none_count, none_has, with_fresh, every_count}
+use Rattle.quorum.proofs.theorems.SetLaws.{none_count, none_has, with_fresh, every_count}
 use Rattle.stamps.specs.declared.Pair.{Pair}
 use Rattle.method.specs.declared.Body.{Body}
 use Rattle.method.specs.declared.Body.TheVariants.{Ask, Tell, Keep, Kept}

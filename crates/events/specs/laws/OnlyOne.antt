@@ -18,7 +18,7 @@ use Rattle.rack.specs.Looking.{in_rack, slot_of, place_in}
 use Rattle.method.specs.Answers.{refusal_in}
 use Rattle.stamps.specs.laws.OnlyOne.{yes_not_no}
 use Rattle.method.specs.Same.{SameOutcome}
-use Rattle.method.specs.laws.OnlyOne.{one_outcome}
+use Rattle.method.proofs.theorems.OnlyOne.{one_outcome}
 use Rattle.rack.specs.Examples.{sizes}
 use Rattle.events.specs.Examples.{message, sending}
 

@@ -2,7 +2,7 @@
 use Rattle.std.specs.Prelude.{ℕ, ◌≤◌, ◌<◌, ◌≡◌, true}
 use Rattle.std.proofs.Common.{arith, pow_mono, ltb-true}
 use Rattle.quorum.specs.Sets.{set_bits, within}
-use Rattle.quorum.specs.laws.SetLaws.{within_below}
+use Rattle.quorum.proofs.theorems.SetLaws.{within_below}
 use Rattle.stamps.specs.declared.Pair.{Pair}
 use Rattle.method.specs.declared.Body.{Body}
 use Rattle.method.specs.declared.Body.TheVariants.{Ask, Tell, Keep, Kept}

@@ -6,7 +6,7 @@ use borrow.Author.Tests.{ltb-true}
 use Rattle.record.specs.declared.Client.{Client}
 use Rattle.record.specs.declared.Cell.{Cell}
 use Rattle.quorum.specs.Sets.{with_replica, without_replica}
-use Rattle.quorum.specs.laws.SetLaws.{with_below, without_below}
+use Rattle.quorum.proofs.theorems.SetLaws.{with_below, without_below}
 use Rattle.stamps.specs.declared.Pair.{Pair}
 use Rattle.method.specs.declared.Message.{Message}
 use Rattle.method.specs.declared.InSlot.{InSlot}

@@ -13,7 +13,7 @@ use Rattle.record.specs.Entry.{client_limit, cell_limit}
 use Rattle.record.specs.Record.{entry_limit}
 use Rattle.rows.specs.Row.{entry_of}
 use Rattle.quorum.specs.Sets.{set_bits, every_replica}
-use Rattle.quorum.specs.laws.SetLaws.{every_below}
+use Rattle.quorum.proofs.theorems.SetLaws.{every_below}
 use Rattle.stamps.specs.Stamp.{fresh_pair}
 use Rattle.method.specs.declared.InSlot.TheVariants.{Empty}
 use Rattle.method.specs.declared.Party.{Party}

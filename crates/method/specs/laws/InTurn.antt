@@ -1,6 +1,5 @@
 -- The decisions in the order in which the code takes them, each refusal where its event is planned; and that this gives the least number that applies.
-use Rattle.std.specs.Prelude.{ℕ, ◌≡◌, refl, Bool, true, false, cond, not, ◌&&◌, eqb}
-use Rattle.std.proofs.Common.{ap}
+use Rattle.std.specs.Prelude.{ℕ, true, cond, eqb}
 use Rattle.record.specs.declared.Client.{Client}
 use Rattle.record.specs.declared.Replica.{Replica}
 use Rattle.record.specs.declared.Cell.{Cell}
@@ -26,12 +25,10 @@ use Rattle.method.specs.declared.Note.TheVariants.{Nothing}
 use Rattle.method.specs.declared.Decision.{Decision}
 use Rattle.method.specs.declared.Decision.TheVariants.{No, Go}
 use Rattle.method.specs.Holding.{holds}
-use Rattle.method.specs.Plan.{active_party, planned, used_up, powered, asking, start_of, ask_of, keep_of, current, written, chosen, keeps_of, tell_counts, tell_in, tell_at, tell_of}
+use Rattle.method.specs.Plan.{active_party, planned, used_up, powered, asking, start_of, ask_of, keep_of, current, written, keeps_of}
 use Rattle.method.specs.Plan.{kept_of}
-use Rattle.method.specs.Plan.{deliver_in, deliver_of, copy_of, resend_of, stop_of, of_slot, plan_of}
-use Rattle.method.specs.Refusals.{is_unknown, is_start, names_slot, names_client, is_resend, is_delivery, is_open, to_replica, last_op, is_write, spent_in, spent_at, spent_by}
-use Rattle.method.specs.Refusals.{slot_empty, client_stopped}
-use Rattle.method.specs.Refusals.{already_open, none_open, replica_off, switched_so, op_spent, number_spent, decision_of}
+use Rattle.method.specs.Plan.{copy_of, resend_of, stop_of}
+use Rattle.method.specs.Refusals.{last_op}
 
 -- ---- a start
 
@@ -125,91 +122,3 @@ turn_of s held (Stop client) = stop_turn s
 turn_of s held (Off replica) = off_turn s replica
 turn_of s held (On replica) = on_turn s replica
 turn_of s held Unknown = No 3
-
--- ---- it is the table's answer
-
--- a test the other way about
-swapped : {A : Type 0} (t : Bool) (a b : A) → cond t a b ≡ cond (not t) b a
-swapped true a b = refl
-swapped false a b = refl
-
-start_turn_lem : (s : Sight) (client : Client) (cell : Cell) (goal : Goal)
-    → start_turn s client cell goal
-    ≡ cond s.party.stopped (No 5) (cond (is_open s.party.work) (No 6) (cond (eqb s.party.op last_op) (No 10) (Go (start_of s client cell goal))))
-unfolding start_turn start_in
-start_turn_lem s client cell goal = ap (cond s.party.stopped (No 5)) (go s.party.work)
-  where
-    go : (w : Work) → start_in w s client cell goal ≡ cond (is_open w) (No 6) (cond (eqb s.party.op last_op) (No 10) (Go (start_of s client cell goal)))
-    go Idle = refl
-    go (Open o) = refl
-
-phase_turn : (goal : Goal) (s : Sight) (m : Message) (o : Operation) (held : Pair)
-    → phase_ends goal s m o held ≡ cond (is_write goal && eqb held.stamp.number last_number) (No 12) (Go (keeps_of s m o (chosen goal m.client held)))
-unfolding phase_ends chosen
-phase_turn Read s m o held = refl
-phase_turn (Write v) s m o held = refl
-
-tell_phase_lem : (ph : Phase) (s : Sight) (m : Message) (o : Operation) (q : Pair)
-    → tell_phase ph s m o q ≡ cond (spent_in ph s m o q) (No 12) (Go (tell_in ph s m o q))
-unfolding tell_phase tell_enough tell_in tell_counts
-tell_phase_lem (Keeping held) s m o q = refl
-tell_phase_lem (Asking held) s m o q = go (has_replica o.set m.replica.0) (asks_enough s.quorums (with_replica o.set m.replica.0))
-  where
-    next : Pair
-    next = holds held q
-
-    on : Decision
-    on = Go (planned s (active_party s.party.op (Open (asking o (with_replica o.set m.replica.0) next))) true Nothing m 0)
-
-    go : (t u : Bool)
-        → cond t (Go (used_up s m)) (cond u (phase_ends o.goal s m o next) on)
-        ≡ cond ((not t && u) && (is_write o.goal && eqb next.stamp.number last_number)) (No 12)
-        (Go (cond t (used_up s m) (cond u (keeps_of s m o (chosen o.goal m.client next))
-        (planned s (active_party s.party.op (Open (asking o (with_replica o.set m.replica.0) next))) true Nothing m 0))))
-    go true u = refl
-    go false true = phase_turn o.goal s m o next
-    go false false = refl
-
-tell_turn_lem : (s : Sight) (m : Message) (q : Pair) → tell_turn s m q ≡ cond (spent_by (Tell q) s m) (No 12) (Go (tell_of s m q))
-unfolding tell_turn tell_work tell_of tell_at
-tell_turn_lem s m q = go (current s.party m) s.party.work
-  where
-    go : (t : Bool) (w : Work) → cond t (tell_work w s m q) (Go (used_up s m)) ≡ cond (t && spent_at w s m q) (No 12) (Go (cond t (tell_at w s m q) (used_up s m)))
-    go false w = refl
-    go true Idle = refl
-    go true (Open o) = tell_phase_lem o.phase s m o q
-
-deliver_turn_lem : (s : Sight) (m : Message) (b : Body)
-    → deliver_turn b s m
-    ≡ cond (to_replica b && not (has_replica s.power m.replica.0)) (No 8) (cond (spent_by b s m) (No 12) (Go (deliver_in b s m)))
-unfolding deliver_turn deliver_in if_on
-deliver_turn_lem s m Ask = swapped (has_replica s.power m.replica.0) _ _
-deliver_turn_lem s m (Tell q) = tell_turn_lem s m q
-deliver_turn_lem s m (Keep q) = swapped (has_replica s.power m.replica.0) _ _
-deliver_turn_lem s m Kept = refl
-
-resend_turn_lem : (s : Sight) (client : Client)
-    → resend_turn s client ≡ cond s.party.stopped (No 5) (cond (not (is_open s.party.work)) (No 7) (Go (resend_of s.party.work s client)))
-unfolding resend_turn resend_in
-resend_turn_lem s client = ap (cond s.party.stopped (No 5)) (go s.party.work)
-  where
-    go : (w : Work) → resend_in w s client ≡ cond (not (is_open w)) (No 7) (Go (resend_of w s client))
-    go Idle = refl
-    go (Open o) = refl
-
-pub in_turn : (s : Sight) (held : InSlot) (e : Event) → turn_of s held e ≡ decision_of s held e
-unfolding turn_of slot_turn stop_turn off_turn on_turn decision_of is_unknown is_start names_slot names_client is_resend is_delivery slot_empty client_stopped already_open none_open
-    replica_off switched_so op_spent number_spent plan_of of_slot deliver_of
-in_turn s held (StartRead client cell) = start_turn_lem s client cell Read
-in_turn s held (StartWrite client cell v) = start_turn_lem s client cell (Write v)
-in_turn s Empty (Deliver slot) = refl
-in_turn s (Full m) (Deliver slot) = deliver_turn_lem s m m.body
-in_turn s Empty (Lose slot) = refl
-in_turn s (Full m) (Lose slot) = refl
-in_turn s Empty (Copy slot) = refl
-in_turn s (Full m) (Copy slot) = refl
-in_turn s held (Resend client) = resend_turn_lem s client
-in_turn s held (Stop client) = refl
-in_turn s held (Off replica) = swapped (has_replica s.power replica.0) _ _
-in_turn s held (On replica) = refl
-in_turn s held Unknown = refl

@@ -5,7 +5,8 @@ use Rattle.method.specs.declared.Event.{Event}
 use Rattle.method.specs.declared.InSlot.{InSlot}
 use Rattle.method.specs.declared.Sight.{Sight}
 use Rattle.method.specs.Refusals.{decision_of}
-use Rattle.method.specs.laws.InTurn.{turn_of, in_turn}
+use Rattle.method.specs.laws.InTurn.{turn_of}
+use Rattle.method.proofs.theorems.InTurn.{in_turn}
 use Rattle.plan.proofs.plan.Goals as goal
 
 -- the decisions in the order in which the code takes them are those of the table

@@ -5,8 +5,8 @@ use Rattle.std.proofs.Common.{⊎_elim, arith, ltb-true}
 use mathlib.Core.List.{Memᴰ}
 use Rattle.quorum.specs.declared.Quorums.{Quorums}
 use Rattle.quorum.specs.Sets.{with_replica, asks_enough, keeps_enough, within, members_of}
-use Rattle.quorum.specs.laws.SetLaws.{within_below, below_within, with_new, with_below}
-use Rattle.quorum.specs.laws.Members.{members_has}
+use Rattle.quorum.proofs.theorems.SetLaws.{within_below, below_within, with_new, with_below}
+use Rattle.quorum.proofs.theorems.Members.{members_has}
 use Rattle.stamps.specs.declared.Stamp.{Stamp}
 use Rattle.stamps.specs.declared.Pair.{Pair}
 use Rattle.rack.specs.declared.Settings.{Settings}

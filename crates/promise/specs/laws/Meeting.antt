@@ -3,7 +3,7 @@ use Rattle.std.specs.Prelude.{ℕ, ◌≡◌, Bool, true, false}
 use Rattle.std.proofs.Common.{sym, ◌∙◌, arith}
 use Rattle.quorum.specs.declared.Quorums.{Quorums}
 use Rattle.quorum.specs.Sets.{asks_enough, keeps_enough, within}
-use Rattle.quorum.specs.laws.SetLaws.{within_below, none_has, meet}
+use Rattle.quorum.proofs.theorems.SetLaws.{within_below, none_has, meet}
 use Rattle.promise.specs.Has.{Has}
 
 pub none : (k : ℕ) → Has 0 k → ⊥

@@ -6,7 +6,7 @@ use Rattle.std.proofs.Common.{ap, sym, ◌∙◌, arith, ltb-true}
 use Rattle.record.specs.declared.Client.{Client}
 use Rattle.record.specs.declared.Cell.{Cell}
 use Rattle.quorum.specs.Sets.{set_bits, has_replica, with_replica, every_replica, others, within}
-use Rattle.quorum.specs.laws.SetLaws.{within_below, below_within, with_below, with_has, none_has, none_asks, none_keeps, none_within, every_below, others_below}
+use Rattle.quorum.proofs.theorems.SetLaws.{within_below, below_within, with_below, with_has, none_has, none_asks, none_keeps, none_within, every_below, others_below}
 use Rattle.stamps.specs.declared.Pair.{Pair}
 use Rattle.stamps.specs.Stamp.{stamp_less, raised}
 use Rattle.method.specs.declared.Body.{Body}

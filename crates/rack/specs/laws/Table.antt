@@ -21,7 +21,7 @@ use Rattle.method.specs.Refusals.{decision_of}
 use Rattle.method.specs.Method.{Delivers, Does}
 use Rattle.method.specs.Method.Delivers.{tells, takes, hears, chooses, counts, ends, spends}
 use Rattle.method.specs.laws.Tests.{never, and_left}
-use Rattle.method.specs.laws.MethodLaws.{method}
+use Rattle.method.proofs.theorems.MethodLaws.{method}
 use Rattle.rack.specs.declared.Settings.{Settings}
 use Rattle.rack.specs.declared.Rack.{Rack}
 use Rattle.rack.specs.declared.Ran.{Ran}

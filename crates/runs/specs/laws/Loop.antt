@@ -10,8 +10,8 @@ use Rattle.record.specs.Record.{entry_limit}
 use Rattle.slots.specs.Free.{marked_at}
 use Rattle.slots.specs.Words.{Maps}
 use Rattle.quorum.specs.Sets.{members_of}
-use Rattle.quorum.specs.laws.SetLaws.{within_below}
-use Rattle.quorum.specs.laws.Members.{members_count}
+use Rattle.quorum.proofs.theorems.SetLaws.{within_below}
+use Rattle.quorum.proofs.theorems.Members.{members_count}
 use Rattle.method.specs.declared.Message.{Message}
 use Rattle.rack.specs.declared.Slot.{Slot}
 use Rattle.rack.specs.declared.Rack.{Rack}

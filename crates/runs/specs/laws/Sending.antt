@@ -17,7 +17,7 @@ use Rattle.method.specs.Plan.{message_of}
 use Rattle.rack.specs.Run.{cleared, addressed}
 use Rattle.rack.specs.Refusals.{freed}
 use Rattle.quorum.specs.Sets.{set_bits, members_of, lowest_of, rest_of}
-use Rattle.quorum.specs.laws.LowestMember.{members_next, members_none, rest_less, ones_rest}
+use Rattle.quorum.proofs.theorems.LowestMember.{members_next, members_none, rest_less, ones_rest}
 
 -- the lowest free slot of a wire
 abbrev pub lowest_in : List Slot → ℕ

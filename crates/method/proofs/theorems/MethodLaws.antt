@@ -35,7 +35,8 @@ use Rattle.method.specs.Method.Delivers.{tells, takes, hears, chooses, counts, e
 use Rattle.method.specs.laws.Tests.{never, and_left, and_right, either}
 use Rattle.method.specs.laws.InTurn.{start_in, start_turn, if_on, phase_ends, tell_enough, tell_phase, tell_work, tell_turn, deliver_turn, resend_in, resend_turn, stop_turn, off_turn}
 use Rattle.method.specs.laws.InTurn.{on_turn}
-use Rattle.method.specs.laws.InTurn.{slot_turn, turn_of, in_turn}
+use Rattle.method.specs.laws.InTurn.{slot_turn, turn_of}
+use Rattle.method.proofs.theorems.InTurn.{in_turn}
 
 -- what is done, if anything is, is such
 abbrev IfGo : (Plan → Type 0) → Decision → Type 0

@@ -25,7 +25,8 @@ use Rattle.method.specs.Answers.{refusal_in, party_after, pair_after, power_afte
 use Rattle.method.specs.Same.{SameOutcome}
 use Rattle.method.specs.Examples.{three, reading, telling, giving, newer}
 use Rattle.method.specs.laws.InTurn.{start_in, start_turn, if_on, phase_ends, tell_enough, tell_phase, tell_work, tell_turn, deliver_turn, resend_in, resend_turn, off_turn}
-use Rattle.method.specs.laws.InTurn.{slot_turn, turn_of, in_turn}
+use Rattle.method.specs.laws.InTurn.{slot_turn, turn_of}
+use Rattle.method.proofs.theorems.InTurn.{in_turn}
 
 pub one_outcome : (o r r' : Decision) → r ≡ o → r' ≡ o → SameOutcome r r'
 one_outcome o r r' p q =

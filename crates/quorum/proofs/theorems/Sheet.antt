@@ -3,7 +3,7 @@ use Rattle.std.specs.Prelude.{[], ◌∷◌, true, false, ◌≡◌, refl}
 use Rattle.std.specs.Int.Count.{ones}
 use Rattle.quorum.specs.Sets.{has_replica, with_replica, set_bits, asks_enough, keeps_enough, majority, every_replica, others, within, members_of, members_from}
 use Rattle.quorum.specs.Shared.{Least, four}
-use Rattle.quorum.specs.laws.SetLaws.{least}
+use Rattle.quorum.proofs.theorems.SetLaws.{least}
 
 pub one_of_1 : Least 1 1
 one_of_1 = least 1

@@ -3,7 +3,7 @@ use Rattle.std.specs.Prelude.{ℕ, ◌+◌, ◌*◌, ◌≤◌, ◌<◌, ◌≡�
 use Rattle.std.proofs.Common.{ap, sym, ◌∙◌, inl, inr, arith, lt-ltb, le-ltb, eq-eqb, ne_eqb, ltb-true, ltb-false, eqb-true}
 use Rattle.record.specs.declared.Client.{Client}
 use Rattle.quorum.specs.Sets.{set_bits, has_replica, with_replica, count_of, majority, asks_enough, keeps_enough, every_replica}
-use Rattle.quorum.specs.laws.SetLaws.{with_has}
+use Rattle.quorum.proofs.theorems.SetLaws.{with_has}
 use Rattle.stamps.specs.declared.Stamp.{Stamp}
 use Rattle.stamps.specs.declared.Pair.{Pair}
 use Rattle.stamps.specs.Stamp.{last_number, stamp_less, raised}

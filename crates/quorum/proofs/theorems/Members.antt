@@ -1,5 +1,5 @@
 -- A set's members in replica order: as many as are counted, each once, and just those that the set has.
-use Rattle.std.specs.Prelude.{ℕ, zero, suc, ◌+◌, ◌/◌, ◌^◌, ◌≤◌, ◌<◌, ◌≡◌, refl, Bool, true, false, ◌⊎◌, length, eqb}
+use Rattle.std.specs.Prelude.{ℕ, zero, suc, ◌+◌, ◌/◌, ◌^◌, ◌≤◌, ◌<◌, ◌≡◌, refl, Bool, true, false, length, eqb}
 use Rattle.std.proofs.Common.{ap, sym, ◌∙◌, ⊎_elim, arith, shr-shr, shr_lt, eqb-true}
 use mathlib.Core.List.Memᴰ.{cases_cons as mem_cons}
 use mathlib.Core.List.Memᴰ.{head as here}
@@ -10,7 +10,7 @@ use Rattle.std.specs.Int.Count.{ones, ones_step}
 use Rattle.std.proofs.lemmas.Bool.{eqb-false}
 use Rattle.quorum.specs.Sets.{has_replica, count_of, keep_if, members_from, members_of}
 use Rattle.quorum.specs.laws.Bits.{bit_is, has_one, has_zero}
-use Rattle.quorum.specs.laws.SetLaws.{has_below}
+use Rattle.quorum.proofs.theorems.SetLaws.{has_below}
 use Rattle.quorum.specs.Shared.{Rising}
 
 -- ---- length

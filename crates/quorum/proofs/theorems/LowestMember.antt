@@ -4,7 +4,7 @@ use Rattle.std.proofs.Common.{ap, sym, ◌∙◌, arith, pow-suc, zero-add, shr-
 use Rattle.std.specs.Int.Count.{ones, count_trailing_zeros, under}
 use Rattle.slots.specs.laws.Bits.{trailing_room}
 use Rattle.quorum.specs.Sets.{set_bits, has_replica, keep_if, members_from, members_of, lowest_of, rest_of}
-use Rattle.quorum.specs.laws.Members.{members_count}
+use Rattle.quorum.proofs.theorems.Members.{members_count}
 
 -- the members by their bits: n bits of x, the lowest of which is for replica b
 unfoldable bit_members : ℕ → ℕ → ℕ → List ℕ

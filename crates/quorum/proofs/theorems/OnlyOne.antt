@@ -5,8 +5,8 @@ use Rattle.std.specs.Int.Count.{ones, count_trailing_zeros}
 use Rattle.record.specs.declared.Replica.{Replica}
 use Rattle.quorum.specs.Sets.{set_bits, has_replica, with_replica, without_replica, count_of, majority, asks_enough, keeps_enough, every_replica, others, within, lowest_of, rest_of}
 use Rattle.quorum.specs.Shared.{four}
-use Rattle.quorum.specs.laws.SetLaws.{same_members, has_with, has_every, has_others}
-use Rattle.quorum.specs.laws.Sheet.{half_of_4, most_of_4, other_three, one_more, not_of_4}
+use Rattle.quorum.proofs.theorems.SetLaws.{same_members, has_with, has_every, has_others}
+use Rattle.quorum.proofs.theorems.Sheet.{half_of_4, most_of_4, other_three, one_more, not_of_4}
 
 -- ---- has, asks_enough, keeps_enough, within
 

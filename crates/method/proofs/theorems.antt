@@ -1,0 +1,5 @@
+-- What is proved of the definitions.
+pub mod FloatingPins
+pub mod MethodLaws
+pub mod OnlyOne
+pub mod InTurn
