@@ -1,6 +1,5 @@
 -- Which faults there are, and what they name.
 use Rattle.std.specs.Prelude.{ℕ, ◌<◌, ◌≤◌, ◌≡◌}
-use Rattle.number.specs.declared.Number.TheVariants as number
 
 -- a fault from low to 28; 28 names the entry after the last that may follow, every other one before it
 pub record Named (low k n limit : ℕ) : Type 0 where

@@ -1,4 +1,4 @@
-use Rattle.std.proofs.Common.{ℕ, ◌-◌, ◌+◌, ◌^◌, ◌<◌, sym, ◌∙◌, arith}
+use Rattle.std.proofs.Common.{◌-◌, ◌+◌, ◌^◌, ◌<◌, sym, ◌∙◌, arith}
 use Rattle.number.specs.laws.Steps.{push, push_zero, push_more}
 use Rattle.number.proofs.Laws.{at_end, fifth_high, fifth, low, high, rest_below}
 use Rattle.number.proofs.+read_groups.Goals as goal

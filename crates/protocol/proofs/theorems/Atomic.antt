@@ -1,5 +1,5 @@
 -- The theorem: in every view that is reached, the operations have tags.
-use Rattle.std.specs.Prelude.{◌≡◌, refl, ◌⊎◌, Bool, true, false, cond, ℕ, ◌≤◌, T, leb}
+use Rattle.std.specs.Prelude.{◌≡◌, refl, Bool, true, false, cond, ℕ, ◌≤◌, T, leb}
 use Rattle.std.proofs.Common.{sym, ap, ◌∙◌, inl, inr, ⊎_elim, arith, leb-true, le-leb}
 use Rattle.std.proofs.Math.Decide.{ℕ_discrete}
 use Rattle.protocol.specs.View.{Setting, Pair, Op, View, Minted}

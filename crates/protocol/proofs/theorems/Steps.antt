@@ -1,5 +1,5 @@
 -- Each move keeps the invariants, and leads to a later view.
-use Rattle.std.specs.Prelude.{◌≡◌, refl, ◌⊎◌, Bool, true, false, cond, ℕ, suc, ◌≤◌, ◌<◌, ℤ}
+use Rattle.std.specs.Prelude.{◌≡◌, refl, Bool, true, false, cond, ℕ, suc, ◌≤◌, ◌<◌, ℤ}
 use Rattle.std.proofs.Common.{sym, ◌∙◌, inl, inr, ⊎_elim, true≢false, arith}
 use Rattle.protocol.specs.View.{Setting, Pair, Op, View, Before, Minted}
 use Rattle.protocol.specs.Message.{Keep}

@@ -11,7 +11,6 @@ use Rattle.record.specs.declared.Entry.TheVariants.{ReadAsked, WriteAsked, Told,
 use Rattle.record.specs.declared.Found.{Found}
 use Rattle.record.specs.declared.Found.TheVariants.{At, Fault}
 use Rattle.record.specs.declared.Standing.{Standing}
-use Rattle.record.specs.declared.Answer.TheVariants.{Refused}
 use Rattle.record.specs.Entry.{last_client, last_cell, up_to, fields_at, entry_at}
 use Rattle.record.specs.Record.{entry_limit, fresh, fault_after, standing_after, open_by, Held, entries, fault, before, held_from, bytes_held}
 use Rattle.record.specs.laws.Steps.{ends, full, unread, misplaced, onward}

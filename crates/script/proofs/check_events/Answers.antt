@@ -1,4 +1,4 @@
-use Rattle.std.proofs.Common.{◌-◌, refl, sym, ◌∙◌, arith}
+use Rattle.std.proofs.Common.{refl, sym, ◌∙◌, arith}
 use Rattle.script.specs.laws.Steps.{event_rises, no_fault, fault_here, fault_later}
 use Rattle.script.proofs.check_events.Goals as goal
 

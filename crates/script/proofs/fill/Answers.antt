@@ -1,4 +1,4 @@
-use Rattle.std.proofs.Common.{◌-◌, sym, ◌∙◌, arith}
+use Rattle.std.proofs.Common.{sym, ◌∙◌, arith}
 use Rattle.script.proofs.Filling.{begins, stops_at_end, stops_at_fault, stops_full, stores}
 use Rattle.script.proofs.fill.Goals as goal
 

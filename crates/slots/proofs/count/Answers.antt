@@ -1,4 +1,4 @@
-use Rattle.std.proofs.Common.{ℕ, ◌-◌, ap, ◌∙◌, arith, rules}
+use Rattle.std.proofs.Common.{ℕ, ap, ◌∙◌, arith, rules}
 use Rattle.slots.specs.Free.{count_from}
 use Rattle.slots.proofs.Laws.{counted, count_none}
 use Rattle.slots.proofs.count.Goals as goal

@@ -1,4 +1,4 @@
-use Rattle.std.proofs.Common.{◌-◌, arith, rules}
+use Rattle.std.proofs.Common.{arith, rules}
 use Rattle.slots.specs.Free.{map_words}
 use Rattle.slots.specs.laws.Finding.{pass_none, pass_one}
 use Rattle.slots.proofs.Laws.{took_here, took_nothing}

@@ -1,4 +1,3 @@
-use Rattle.std.proofs.Common.{◌-◌}
 use Rattle.text.specs.laws.Printing.{printed_length}
 use Rattle.text.proofs.Laws.{no_hex, next_hex, all_hex}
 use Rattle.text.proofs.put_hex.Goals as goal

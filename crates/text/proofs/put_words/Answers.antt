@@ -1,4 +1,3 @@
-use Rattle.std.proofs.Common.{◌-◌}
 use Rattle.text.specs.laws.Printing.{nothing, printed_length}
 use Rattle.text.proofs.Laws.{next_word, all_words}
 use Rattle.text.proofs.put_words.Goals as goal
