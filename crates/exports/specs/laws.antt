@@ -1,4 +1,3 @@
 -- Laws: what is proved, and the definitions that only proofs need.
 pub mod OnlyOne
 pub mod Bounds
-pub mod Unpacking

@@ -72,6 +72,7 @@ fn play_events(rack: Rack, allowance: usize, s: &[u8], first: usize) -> Ran
 }
 
 // Makes a rack of these sizes and runs the events from place `first` of the bytes on it. Where the maker refuses, nothing is run.
+#[tactic(auto, using(crate::proofs::Laws::played, crate::proofs::Laws::not_made, crate::proofs::Laws::sound_made))]
 pub fn play(s: &[u8], replicas: u32, clients: u32, cells: u32, allowance: u32, first: usize) -> Ran
     ensures { result ≡ played_of s.now replicas clients cells allowance first }
 {
