@@ -2,9 +2,6 @@
 pub mod Arrays
 pub mod Passing
 pub mod Placing
-pub mod Sweeping
-pub mod Taking
-pub mod Visiting
 pub mod Bridge
 pub mod Shown
 pub mod CellLaw

@@ -1,3 +1,4 @@
 -- Laws that belong to no one function.
 mod Laws
 mod Filling
+pub mod theorems

@@ -3,6 +3,4 @@ pub mod RowLaws
 pub mod Storing
 pub mod RowTrip
 pub mod Trip
-pub mod Refusals
 pub mod Sheet
-pub mod OnlyOne

@@ -35,7 +35,8 @@ use Rattle.rack.specs.Run.{fresh_rack, made_of, byte, event_of, addressed, clear
 use Rattle.rack.specs.Refusals.{decided}
 use Rattle.rack.specs.Looking.{slot_of}
 use Rattle.rack.specs.laws.SoundLaws.{Sized, Sound, sound_of_lem}
-use Rattle.rack.specs.laws.Decided.{Decided, decided_fits}
+use Rattle.rack.specs.laws.Decided.{Decided}
+use Rattle.rack.proofs.theorems.Decided.{decided_fits}
 use Rattle.rack.specs.Looking.{looked_held, looked_client, looked_party, looked_place, sight}
 use Rattle.rack.specs.laws.Fresh.{made_sound}
 use Rattle.slots.specs.Free.{first_free}

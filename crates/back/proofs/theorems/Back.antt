@@ -10,7 +10,7 @@ use Rattle.record.specs.Legal.{Legal}
 use Rattle.number.specs.Below.{Words}
 use Rattle.rows.specs.laws.Storing.{stored_fits}
 use Rattle.record.proofs.theorems.Trip.{read_of_write, record_bytes, record_few}
-use Rattle.rows.specs.laws.Trip.{reads_legal, writes_legal}
+use Rattle.rows.proofs.theorems.Trip.{reads_legal, writes_legal}
 use Rattle.rows.specs.laws.RowLaws.{rows_length}
 use Rattle.verdict.specs.Verdict.{repeats, distinct_from, distinct, taken_for}
 use Rattle.rack.specs.declared.Rack.{Rack}

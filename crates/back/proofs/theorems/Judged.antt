@@ -34,7 +34,7 @@ use Rattle.rack.specs.Sound.{sound_of}
 use Rattle.rack.specs.Run.{made_of, event_of, applied_of, turn, run_from, run_of}
 use Rattle.rack.specs.Refusals.{decided}
 use Rattle.rack.specs.Looking.{looked_held, sight}
-use Rattle.rack.specs.laws.Decided.{decided_does}
+use Rattle.rack.proofs.theorems.Decided.{decided_does}
 use Rattle.rack.specs.laws.Fresh.{made_sound}
 use Rattle.runs.specs.laws.Stays.{sound_stays}
 use Rattle.runs.specs.laws.Steps.{run_from_lem}

@@ -12,7 +12,7 @@ use Rattle.rack.specs.Places.{of_sizes, slot_limit, empty, free_at, room_of}
 use Rattle.rack.specs.Sound.{sound_of}
 use Rattle.rack.specs.Run.{applied_of, fresh_rack, made_of, run_of}
 use Rattle.rack.specs.Refusals.{decided}
-use Rattle.rack.specs.laws.Decided.{decided_fits}
+use Rattle.rack.proofs.theorems.Decided.{decided_fits}
 use Rattle.rack.specs.Counts.{sent_by, delivered_by}
 use Rattle.runs.specs.laws.Stays.{sound_stays}
 use Rattle.runs.specs.laws.Loop.{applied_wire, room_after}

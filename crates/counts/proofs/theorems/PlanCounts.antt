@@ -40,7 +40,8 @@ use Rattle.rack.specs.Sound.{held_fits, owes, sound_of}
 use Rattle.rack.specs.Looking.{looked_held, looked_client, looked_party, sight}
 use Rattle.rack.specs.Refusals.{freed, decided}
 use Rattle.rack.specs.laws.SoundLaws.{Sound, sound_of_lem, named, bits_enough}
-use Rattle.rack.specs.laws.Decided.{Decided, decided_fits}
+use Rattle.rack.specs.laws.Decided.{Decided}
+use Rattle.rack.proofs.theorems.Decided.{decided_fits}
 use Rattle.rack.specs.Counts.{sent_by, delivered_by}
 use Rattle.counts.specs.laws.Costing.{requests_else, requests_own, none_sent, silent, answers, start_cost, phase_cost_lem, same_cost}
 use Rattle.counts.specs.Counts.{copied_by, lost_by, is_request, requests_by, resent_by, phase_cost, cost_in, cost_of, ends_by}

@@ -23,7 +23,7 @@ use Rattle.rack.specs.Run.{recorded, entries_in, applied_of, fresh_rack}
 use Rattle.rack.specs.Refusals.{decided}
 use Rattle.rack.specs.laws.SoundLaws.{sound_of_lem}
 use Rattle.rack.specs.laws.Fresh.{made_sound}
-use Rattle.rack.specs.laws.Decided.{decided_fits}
+use Rattle.rack.proofs.theorems.Decided.{decided_fits}
 use Rattle.rack.specs.Looking.{looked_client, looked_party}
 use Rattle.runs.specs.laws.Stays.{stays, sound_stays}
 use Rattle.runs.specs.laws.Loop.{applied_parties}

@@ -21,8 +21,8 @@ use Rattle.record.specs.declared.Answer.TheVariants.{All, Refused as Unread}
 use Rattle.rows.specs.Rows.{rows_held, read_outcome, write_outcome}
 use Rattle.rows.specs.Refusal.{Refusal}
 use Rattle.rows.specs.laws.RowLaws.{rows_length}
-use Rattle.rows.specs.laws.Trip.{rows_legal, read_took, write_took}
-use Rattle.rows.specs.laws.Refusals.{read_refusals, write_refusals}
+use Rattle.rows.proofs.theorems.Trip.{rows_legal, read_took, write_took}
+use Rattle.rows.proofs.theorems.Refusals.{read_refusals, write_refusals}
 use Rattle.verdict.specs.Verdict.{repeats, distinct_from, distinct, taken_for, Judges}
 use Rattle.verdict.specs.laws.OnlyOne.{lowest_below, taken_legal}
 use Rattle.verdict.specs.laws.Refusals.{judges_refusals}
@@ -35,7 +35,7 @@ use Rattle.rack.specs.declared.Made.{Made}
 use Rattle.rack.specs.Sound.{settings_fit}
 use Rattle.rack.specs.Run.{fresh_rack, made_of, event_of, turn, applied_of, run_from, run_of}
 use Rattle.rack.specs.Refusals.{decided}
-use Rattle.rack.specs.laws.Table.{decided_refuses}
+use Rattle.rack.proofs.theorems.Table.{decided_refuses}
 use Rattle.runs.specs.laws.Steps.{run_steps}
 use Rattle.layout.specs.declared.WordsAnswer.{WordsAnswer}
 use Rattle.layout.specs.Layout.{word_count}

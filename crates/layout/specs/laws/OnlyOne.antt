@@ -6,7 +6,7 @@ use Rattle.rack.specs.declared.Rack.{Rack}
 use Rattle.rack.specs.Places.{replica_limit}
 use Rattle.rack.specs.Sound.{settings_fit, sound_of}
 use Rattle.rack.specs.Run.{made_of, event_of, ran_of, turn, run_from, run_of}
-use Rattle.rack.specs.laws.Table.{decided_unsound}
+use Rattle.rack.proofs.theorems.Table.{decided_unsound}
 use Rattle.layout.specs.declared.WordsAnswer.{WordsAnswer}
 use Rattle.layout.specs.Layout.{word_count}
 use Rattle.layout.specs.Reading.{rack_of}

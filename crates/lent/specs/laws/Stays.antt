@@ -32,7 +32,8 @@ use Rattle.rack.specs.Run.{addressed, cleared, recorded, entries_in, applied_of,
 use Rattle.rack.specs.Refusals.{decided}
 use Rattle.rack.specs.Looking.{slot_of, place_in}
 use Rattle.rack.specs.laws.SoundLaws.{Sized, sound_of_lem, named}
-use Rattle.rack.specs.laws.Decided.{Decided, decided_fits}
+use Rattle.rack.specs.laws.Decided.{Decided}
+use Rattle.rack.proofs.theorems.Decided.{decided_fits}
 use Rattle.rack.specs.Looking.{looked_held, looked_client, looked_place, sight}
 use Rattle.runs.specs.laws.Stays.{set_either, stays, sound_stays}
 use Rattle.runs.specs.laws.Steps.{run_from_lem}

@@ -1,6 +1,6 @@
 -- `pairs::note_entry` meets its contract. Assumes nothing.
 use Rattle.std.proofs.Common.{refl, sym, arith}
-use Rattle.pairs.specs.laws.Pairing.{row_client}
+use Rattle.pairs.proofs.theorems.Pairing.{row_client}
 use Rattle.pairs.proofs.note_entry.Goals as goal
 
 pub bounds-opened-k : goal.bounds-opened-k

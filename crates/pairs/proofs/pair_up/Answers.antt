@@ -1,6 +1,6 @@
-use Rattle.std.proofs.Common.{◌-◌, sym, ◌∙◌, lt-ltb, le-ltb}
+use Rattle.std.proofs.Common.{sym, ◌∙◌, lt-ltb, le-ltb}
 use Rattle.record.proofs.theorems.EntryTrip.{written_entry}
-use Rattle.pairs.specs.laws.Pairing.{pairs_none, pairs_full, pairs_unread, pairs_misplaced, pairs_few, pairs_end, pairs_on}
+use Rattle.pairs.proofs.theorems.Pairing.{pairs_none, pairs_full, pairs_unread, pairs_misplaced, pairs_few, pairs_end, pairs_on}
 use Rattle.pairs.proofs.pair_up.Goals as goal
 
 pub loop-at-init : goal.loop-at-init

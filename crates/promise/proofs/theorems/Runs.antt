@@ -39,7 +39,8 @@ use Rattle.rack.specs.Run.{fresh_rack, entries_in, applied_of, event_of, turn, r
 use Rattle.rack.specs.Refusals.{decided}
 use Rattle.rack.specs.Looking.{looked_held, looked_client, looked_party, looked_pair, sight}
 use Rattle.rack.specs.laws.SoundLaws.{Sized, Sound, sound_of_lem}
-use Rattle.rack.specs.laws.Decided.{Looked, Decided, decided_sound, decided_fits}
+use Rattle.rack.specs.laws.Decided.{Looked, Decided}
+use Rattle.rack.proofs.theorems.Decided.{decided_sound, decided_fits}
 use Rattle.runs.specs.laws.Stays.{stays}
 use Rattle.protocol.specs.View.{View}
 use Rattle.protocol.specs.Move.{fresh, first}

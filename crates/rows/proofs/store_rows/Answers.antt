@@ -1,4 +1,4 @@
-use Rattle.std.proofs.Common.{◌-◌, sym, ◌∙◌, arith}
+use Rattle.std.proofs.Common.{sym, ◌∙◌, arith}
 use Rattle.rows.specs.laws.RowLaws.{stored_in}
 use Rattle.rows.proofs.Filling.{fills, fills_room, fills_entry, fills_on, fills_long, fills_end}
 use Rattle.rows.proofs.store_rows.Goals as goal

@@ -31,8 +31,9 @@ use Rattle.rack.specs.Run.{addressed, cleared, recorded, entries_in, applied_of,
 use Rattle.rack.specs.Refusals.{freed, checked, decided}
 use Rattle.rack.specs.Looking.{in_rack, slot_of, place_in}
 use Rattle.rack.specs.laws.SoundLaws.{sound_of_lem, bits_enough}
-use Rattle.rack.specs.laws.Table.{in_order_lem}
-use Rattle.rack.specs.laws.Decided.{Looked, looked, Decided, decided_fits}
+use Rattle.rack.proofs.theorems.Table.{in_order_lem}
+use Rattle.rack.specs.laws.Decided.{Looked, Decided}
+use Rattle.rack.proofs.theorems.Decided.{looked, decided_fits}
 use Rattle.rack.specs.Looking.{looked_client, looked_place}
 use Rattle.runs.specs.laws.Stays.{stays, sound_stays}
 use Rattle.runs.specs.laws.Steps.{nth_event, tried, used_up_lem, ended}

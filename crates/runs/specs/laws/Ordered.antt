@@ -9,7 +9,8 @@ use Rattle.rack.specs.declared.Ran.{Ran}
 use Rattle.rack.specs.Sound.{sound_of}
 use Rattle.rack.specs.Run.{event_of, applied_of, turn, ran_of, run_from, run_of}
 use Rattle.rack.specs.Refusals.{decided}
-use Rattle.rack.specs.laws.Table.{in_order, in_order_lem}
+use Rattle.rack.specs.laws.Table.{in_order}
+use Rattle.rack.proofs.theorems.Table.{in_order_lem}
 use Rattle.runs.specs.laws.Stays.{sound_stays}
 use Rattle.runs.specs.laws.Steps.{run_from_lem}
 

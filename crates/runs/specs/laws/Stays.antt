@@ -25,7 +25,8 @@ use Rattle.rack.specs.Refusals.{decided}
 use Rattle.rack.specs.Looking.{slot_of}
 use Rattle.rack.specs.laws.SoundLaws.{Sound, sound_of_lem, of_sound}
 use Rattle.rack.specs.laws.Owed.{owed_in_lem, owed_set}
-use Rattle.rack.specs.laws.Decided.{Decided, decided_fits}
+use Rattle.rack.specs.laws.Decided.{Decided}
+use Rattle.rack.proofs.theorems.Decided.{decided_fits}
 use Rattle.rack.specs.Looking.{looked_client, looked_place}
 
 -- ---- stores

@@ -10,7 +10,7 @@ use Rattle.rack.specs.declared.Ran.{Ran}
 use Rattle.rack.specs.Sound.{sound_of}
 use Rattle.rack.specs.Run.{event_of, applied_of, turn, ran_of, run_from, run_of}
 use Rattle.rack.specs.Refusals.{decided}
-use Rattle.rack.specs.laws.Table.{decided_unsound}
+use Rattle.rack.proofs.theorems.Table.{decided_unsound}
 use Rattle.runs.specs.Exact.{Exact}
 
 -- the event at place i of the words

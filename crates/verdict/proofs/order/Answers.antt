@@ -1,5 +1,5 @@
 -- `verdict::order` meets its contract: the array of places is empty at first. Assumes nothing.
-use Rattle.clusters.specs.laws.Visiting.{scattered_none}
+use Rattle.clusters.proofs.theorems.Visiting.{scattered_none}
 use Rattle.verdict.proofs.order.Goals as goal
 
 pub scatter-requires : goal.scatter-requires

@@ -1,5 +1,5 @@
 use Rattle.std.proofs.Common.{◌-◌, arith}
-use Rattle.clusters.specs.laws.Taking.{own_start, own_step, own_end}
+use Rattle.clusters.proofs.theorems.Taking.{own_start, own_step, own_end}
 use Rattle.verdict.proofs.own_numbers.Goals as goal
 
 pub loop-i-init : goal.loop-i-init

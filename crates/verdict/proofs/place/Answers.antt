@@ -1,5 +1,5 @@
 -- `verdict::place` meets its contract: a write's cluster is put at its place, which no other has, and what is no write beyond all places. Assumes nothing.
-use Rattle.clusters.specs.laws.Visiting.{scatter_on, scatter_inside}
+use Rattle.clusters.proofs.theorems.Visiting.{scatter_on, scatter_inside}
 use Rattle.verdict.proofs.place.Goals as goal
 
 pub bounds-at-i : goal.bounds-at-i

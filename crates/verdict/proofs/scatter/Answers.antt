@@ -1,5 +1,5 @@
 use Rattle.std.proofs.Common.{◌-◌, arith}
-use Rattle.clusters.specs.laws.Visiting.{scatter_end}
+use Rattle.clusters.proofs.theorems.Visiting.{scatter_end}
 use Rattle.verdict.proofs.scatter.Goals as goal
 
 pub loop-p-init : goal.loop-p-init

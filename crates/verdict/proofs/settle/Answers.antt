@@ -1,5 +1,5 @@
 -- `verdict::settle` meets its contract: the passes follow one another. Assumes nothing.
-use Rattle.clusters.specs.laws.Taking.{tally_none_yet, scatterable}
+use Rattle.clusters.proofs.theorems.Taking.{tally_none_yet, scatterable}
 use Rattle.verdict.specs.laws.Judging.{settles}
 use Rattle.verdict.proofs.settle.Goals as goal
 

@@ -1,5 +1,5 @@
 use Rattle.std.proofs.Common.{◌-◌, arith}
-use Rattle.clusters.specs.laws.Sweeping.{sweep_start, sweep_end}
+use Rattle.clusters.proofs.theorems.Sweeping.{sweep_start, sweep_end}
 use Rattle.verdict.proofs.sweep.Goals as goal
 
 pub loop-p-init : goal.loop-p-init

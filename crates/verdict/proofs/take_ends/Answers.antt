@@ -1,5 +1,5 @@
 use Rattle.std.proofs.Common.{◌-◌, arith}
-use Rattle.clusters.specs.laws.Taking.{tally_end}
+use Rattle.clusters.proofs.theorems.Taking.{tally_end}
 use Rattle.verdict.proofs.take_ends.Goals as goal
 
 pub loop-p-init : goal.loop-p-init

@@ -1,5 +1,5 @@
 -- `verdict::take_entry` meets its contract: the entry ends a write, a read or nothing. Assumes nothing.
-use Rattle.clusters.specs.laws.Taking.{small, small_start, lowered_read, lowered_other}
+use Rattle.clusters.proofs.theorems.Taking.{small, small_start, lowered_read, lowered_other}
 use Rattle.verdict.proofs.take_entry.Goals as goal
 
 pub take_done-requires : goal.take_done-requires

@@ -1,7 +1,7 @@
 -- `verdict::take_read` meets its contract: the read gives zero, or what no write asks, or what a write asks that starts after it ended or before.
 -- Assumes nothing.
 use Rattle.std.proofs.Common.{arith}
-use Rattle.clusters.specs.laws.Taking.{small, small_cell, tally_zero, tally_none, tally_late, tally_found}
+use Rattle.clusters.proofs.theorems.Taking.{small, small_cell, tally_zero, tally_none, tally_late, tally_found}
 use Rattle.verdict.proofs.take_read.Goals as goal
 
 pub take_zero-requires : goal.take_zero-requires

@@ -1,6 +1,6 @@
 -- `verdict::visit` meets its contract: no cluster stands at the place, or one does. Assumes nothing.
 use Rattle.std.proofs.Common.{arith}
-use Rattle.clusters.specs.laws.Visiting.{visit_none, visit_on, visit_small}
+use Rattle.clusters.proofs.theorems.Visiting.{visit_none, visit_on, visit_small}
 use Rattle.verdict.proofs.visit.Goals as goal
 
 pub returns-then-n-w : goal.returns-then-n-w

@@ -1,4 +1,4 @@
-use Rattle.std.proofs.Common.{◌-◌, refl, sym, ◌∙◌, arith, rules}
+use Rattle.std.proofs.Common.{refl, sym, ◌∙◌, arith, rules}
 use Rattle.rack.specs.Sound.{owed_in}
 use Rattle.rack.proofs.Laws.{owed_next, owed_end}
 use Rattle.rack.proofs.owed.owed_by_all.Goals as goal

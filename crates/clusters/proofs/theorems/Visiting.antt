@@ -7,7 +7,7 @@ use Rattle.record.specs.Record.{entry_limit}
 use Rattle.record.specs.Entry.{cell_limit}
 use Rattle.clusters.specs.laws.Arrays.{place_count, far, Arrays, kind_at, cell_at, place_of, Scattering, Scattered, mark_of, Sweepable, Visited}
 use Rattle.clusters.specs.laws.Placing.{scatter_start, scatter_skip, scatter_beyond, scatter_step}
-use Rattle.clusters.specs.laws.Sweeping.{sweep_none, sweep_step}
+use Rattle.clusters.proofs.theorems.Sweeping.{sweep_none, sweep_step}
 
 -- ---- scattering
 

@@ -10,7 +10,7 @@ use Rattle.record.proofs.theorems.Refusals.{no_at, named, record_faults}
 use Rattle.record.specs.Named.{Named}
 use Rattle.rows.specs.Row.{row_found, row_at}
 use Rattle.rows.specs.Rows.{rows_held, rows_of, Outcome, stored, read_into, write_into, read_outcome, write_outcome}
-use Rattle.rows.specs.laws.Trip.{Stores, short, fits, stores}
+use Rattle.rows.proofs.theorems.Trip.{Stores, short, fits, stores}
 use Rattle.rows.specs.Refusal.{Refusal}
 
 -- a row with 24 or 25
