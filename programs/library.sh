@@ -26,11 +26,11 @@ keep_absolute_path() {
     PATH=${kept:-/usr/bin:/bin}
 }
 
-# Bash takes functions from the environment. One that is named like a tool or a command of the shell would answer in its place. POSIXLY_CORRECT has
-# bash look for `unset` itself before any function; other shells take no notice.
+# Bash takes functions from the environment. One that is named like a tool or a command of the shell would answer in its place, here or in a script that
+# rt starts. POSIXLY_CORRECT has bash look for `unset` itself before any function; other shells take no notice.
 drop_foreign_functions() {
     POSIXLY_CORRECT=1
-    unset -f '[' cd command echo false kill printf pwd read test true umask wait
+    unset -f '[' cd command echo false kill printf pwd read test true umask unset wait
 }
 
 need_tools() { # TOOL...

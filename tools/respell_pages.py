@@ -3,7 +3,7 @@
 
 usage: tools/respell_pages.py            at the top, once, after tools/respell.py: rewrites the pages, in backquotes
        tools/respell_pages.py --list     prints each old name and its new one, and changes nothing
-       tools/respell_pages.py --paths    only brings paths up to date of theorems that have moved from specs/laws/ to proofs/theorems/
+       tools/respell_pages.py --paths    only brings paths up to date of what has moved, mostly from specs/laws/ to proofs/theorems/
 
 The first line of docs/PORT.md names the commit in the old spelling. A file of specs/, or of lemmas, declares the same things in the same order there
 and here: so the names are laid beside one another, file by file. A name that became two is left as it is, and printed where a page has it.
@@ -20,7 +20,7 @@ MARKS = r"\s*(?:(?:pub|abbrev|unfoldable|opaque|axiom)\s+)*(?:record\s+|data\s+)
 DECLARED = re.compile(rf"{MARKS}({NAME}(?:\s+{NAME})*)(?:\s*(?:\{{[^}}]*\}}|\([^)]*\)))*\s*:(?:\s|$)")
 NO_NAMES = ("use", "module", "where", "let")
 QUOTED = re.compile(r"```.*?```|`[^`]*`", re.S)
-PATH = re.compile(r"crates/\w+/specs/laws/\w+\.antt")
+CITED = re.compile(r"(?:`([^`\n]*)`\s*\()?(crates/(\w+)/[\w/]+\.antt)")
 WORD = re.compile(r"[A-Za-z_][\w'′]*(?:-[\w'′]+)*")
 
 
@@ -49,28 +49,39 @@ def respelled(landed):
         with open(file, encoding="utf-8") as it:
             old, new = declared(git("show", f"{landed}:{file}")), declared(it.read())
         if len(old) != len(new):
-            sys.exit(f"{file}: {len(old)} names then, {len(new)} now")
+            print(f"{file}: passed over, since it has {len(new)} names now and had {len(old)} then")
+            continue
         for one, other in zip(old, new):
             names.setdefault(one, set()).add(other)
     return names
 
 
+def declares(file, name):
+    with open(file, encoding="utf-8") as it:
+        return name in declared(it.read())
+
+
 def moved(found):
-    """A path, or the one in proofs/theorems/ where the theorems have moved there."""
-    there = found[0].replace("/specs/laws/", "/proofs/theorems/")
-    return there if not os.path.isfile(found[0]) and os.path.isfile(there) else found[0]
+    """A path, with the name before it where there is one; or the path of the one file that declares the name, or has the file's, where that has moved."""
+    name, path, crate = found[1], found[2], found[3]
+    files = [f"{at}/{file}" for top in ("specs", "proofs") for at, _, files in os.walk(f"crates/{crate}/{top}") for file in sorted(files)]
+    there = os.path.isfile(path)
+    if there and (not name or declares(path, name)):
+        return found[0]
+    homes = [it for it in files if name and declares(it, name)] or ([] if there else [it for it in files if it.endswith("/" + os.path.basename(path))])
+    return found[0].replace(path, homes[0]) if len(homes) == 1 else found[0]
 
 
 def main():
     with open("docs/PORT.md", encoding="utf-8") as it:
-        names = respelled(it.readline().strip())
+        names = {} if "--paths" in sys.argv else respelled(it.readline().strip())
     if "--list" in sys.argv:
         for one in sorted(names):
             print(one, *sorted(names[one]))
         return
     for page in PAGES:
         with open(page, encoding="utf-8") as it:
-            text = PATH.sub(moved, it.read())
+            text = CITED.sub(moved, it.read())
 
         def word(found):
             now = names.get(found[0], {found[0]})

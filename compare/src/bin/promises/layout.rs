@@ -1,6 +1,7 @@
-//! Where definitions stand: what has to be read is in files directly in crates/*/specs/, and those hold nothing else. README.md lists them.
+//! Where definitions stand: what has to be read is in files directly in crates/*/specs/, and those hold nothing else; or in a file of its own in
+//! crates/*/proofs/theorems/, where it is made of theorems. README.md lists them.
 
-use crate::project::{Place, Project};
+use crate::project::{Place, Project, THEOREMS};
 use crate::reach::Reach;
 use crate::tokens::wrapped;
 use std::collections::{BTreeMap, BTreeSet};
@@ -12,7 +13,8 @@ fn is_below(file: &str) -> bool {
     file.matches('/').count() > 1
 }
 
-/// Files below a folder of specs/ that hold reached definitions, and files directly in specs/ that hold anything else. Lists of modules hold nothing.
+/// Files below a folder of specs/ that hold reached definitions, files directly in specs/ that hold anything else, and files of theorems that hold both. Lists of
+/// modules hold nothing.
 pub fn violations(project: &Project, reach: &Reach) -> Vec<String> {
     let mut found = Vec::new();
     for (krate, read) in project.crates.iter().enumerate() {
@@ -24,7 +26,14 @@ pub fn violations(project: &Project, reach: &Reach) -> Vec<String> {
                 items.iter().map(|&item| definitions.items[item].name.as_str()).collect::<Vec<_>>().join(", ")
             };
             let path = project.path_of(krate, file);
-            if is_below(file) && !reached.is_empty() {
+            if file.starts_with(THEOREMS) {
+                if !reached.is_empty() && !others.is_empty() {
+                    found.push(format!(
+                        "{path}: reached, and beside theorems or what isn't reached: {}",
+                        names(&reached)
+                    ));
+                }
+            } else if is_below(file) && !reached.is_empty() {
                 found.push(format!("{path}: reached, and not directly in specs/: {}", names(&reached)));
             } else if !is_below(file) && !others.is_empty() {
                 let beside =

@@ -25,7 +25,7 @@ pub struct Crate {
 
 /// Where theorems stand that can't stand in specs/, since a must-fail edit of a definition has to leave specs/ readable: `proofs/theorems.antt`, and the
 /// folder.
-const THEOREMS: &str = "proofs/theorems";
+pub const THEOREMS: &str = "proofs/theorems";
 
 /// Where an item stands. The order is that of crates.txt, then files by name, then as in the file.
 #[derive(Clone, Debug, PartialEq, Eq, PartialOrd, Ord)]
