@@ -1,4 +1,4 @@
-use Rattle.std.proofs.Common.{arith, ◌-◌}
+use Rattle.std.proofs.Common.{arith}
 use Rattle.chains.proofs.Entering.{chained_none, none_yet, none_more, links_all, links_again, stays_on, stays_none}
 use Rattle.chains.proofs.link.Goals as goal
 

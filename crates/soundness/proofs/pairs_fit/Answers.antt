@@ -1,4 +1,4 @@
-use Rattle.std.proofs.Common.{◌-◌, sym, ◌∙◌, true, rules}
+use Rattle.std.proofs.Common.{sym, ◌∙◌, rules}
 use Rattle.rack.specs.Sound.{pairs_fit}
 use Rattle.rack.specs.laws.Tests.{all_none, all_next, all_fail}
 use Rattle.soundness.proofs.Laws.{all_end}

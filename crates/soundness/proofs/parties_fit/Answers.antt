@@ -1,5 +1,5 @@
-use Rattle.std.proofs.Common.{◌-◌, sym, ◌∙◌, true, rules}
-use Rattle.rack.specs.Sound.{work_fits, parties_fit}
+use Rattle.std.proofs.Common.{sym, ◌∙◌, rules}
+use Rattle.rack.specs.Sound.{parties_fit}
 use Rattle.rack.specs.laws.Tests.{all_none, all_next, all_fail}
 use Rattle.soundness.proofs.Laws.{all_end}
 use Rattle.soundness.proofs.parties_fit.Goals as goal

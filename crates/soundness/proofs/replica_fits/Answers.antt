@@ -1,5 +1,4 @@
-use Rattle.std.proofs.Common.{◌-◌, sym, ◌∙◌, true, rules}
-use Rattle.rack.specs.Sound.{pair_fits}
+use Rattle.std.proofs.Common.{sym, ◌∙◌, rules}
 use Rattle.rack.specs.laws.Tests.{all_none, all_next, all_fail}
 use Rattle.soundness.proofs.Laws.{all_end}
 use Rattle.soundness.proofs.replica_fits.Goals as goal

@@ -1,6 +1,6 @@
-use Rattle.std.proofs.Common.{◌-◌, sym, ◌∙◌, true, rules}
+use Rattle.std.proofs.Common.{sym, ◌∙◌, rules}
 use Rattle.rack.specs.Places.{slot_limit}
-use Rattle.rack.specs.Sound.{held_fits, wire_fits}
+use Rattle.rack.specs.Sound.{wire_fits}
 use Rattle.rack.specs.laws.Tests.{all_none, all_next, all_fail}
 use Rattle.soundness.proofs.Laws.{all_end}
 use Rattle.soundness.proofs.wire_fits.Goals as goal

@@ -1,4 +1,4 @@
-use Rattle.std.proofs.Common.{ℕ, ◌-◌, below_more, get_or, sym, ap, ◌∙◌, arith}
+use Rattle.std.proofs.Common.{ℕ, below_more, get_or, sym, ap, ◌∙◌, arith}
 use Rattle.verdict.proofs.lowest.Goals as goal
 
 pub loop-c-init : goal.loop-c-init

@@ -1,4 +1,4 @@
-use Rattle.std.proofs.Common.{◌-◌, arith}
+use Rattle.std.proofs.Common.{arith}
 use Rattle.clusters.proofs.theorems.Taking.{own_start, own_step, own_end}
 use Rattle.verdict.proofs.own_numbers.Goals as goal
 

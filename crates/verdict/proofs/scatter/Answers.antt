@@ -1,4 +1,4 @@
-use Rattle.std.proofs.Common.{◌-◌, arith}
+use Rattle.std.proofs.Common.{arith}
 use Rattle.clusters.proofs.theorems.Visiting.{scatter_end}
 use Rattle.verdict.proofs.scatter.Goals as goal
 

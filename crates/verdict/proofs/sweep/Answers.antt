@@ -1,4 +1,4 @@
-use Rattle.std.proofs.Common.{◌-◌, arith}
+use Rattle.std.proofs.Common.{arith}
 use Rattle.clusters.proofs.theorems.Sweeping.{sweep_start, sweep_end}
 use Rattle.verdict.proofs.sweep.Goals as goal
 

@@ -1,4 +1,4 @@
-use Rattle.std.proofs.Common.{◌-◌, arith}
+use Rattle.std.proofs.Common.{arith}
 use Rattle.clusters.proofs.theorems.Taking.{tally_end}
 use Rattle.verdict.proofs.take_ends.Goals as goal
 

@@ -1,4 +1,4 @@
-use Rattle.std.proofs.Common.{ℕ, ◌+◌, ◌*◌, ◌-◌, ◌/◌, ◌<◌, ◌≡◌, refl, sym, ◌∙◌, arith, length, leb, List}
+use Rattle.std.proofs.Common.{ℕ, ◌+◌, ◌*◌, ◌/◌, ◌<◌, ◌≡◌, refl, sym, ◌∙◌, arith, length, leb, List}
 use Rattle.record.specs.Entry.{entry_bytes}
 use Rattle.record.specs.Record.{entry_limit, fault_after, standing_after}
 use Rattle.record.specs.declared.Entry.{Entry}

@@ -1,4 +1,4 @@
-use Rattle.std.proofs.Common.{◌-◌, sym, ◌∙◌}
+use Rattle.std.proofs.Common.{sym, ◌∙◌}
 use Rattle.writer.proofs.Emitting.{emits, emits_entry, emits_room, emits_on, emits_long, emits_end}
 use Rattle.writer.proofs.put_rows.Goals as goal
 
