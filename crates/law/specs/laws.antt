@@ -4,3 +4,7 @@ pub mod Sort
 pub mod Reads
 pub mod Steps
 pub mod Decide
+pub mod Checked
+pub mod Operations
+pub mod Zones
+pub mod Sheet

@@ -1,3 +1,4 @@
 -- Laws: what is proved, and the definitions that only proofs need.
 pub mod Bits
 pub mod FloatingPins
+pub mod Members

@@ -10,7 +10,7 @@ use Rattle.law.specs.Order.{In, Pairs}
 use Rattle.law.specs.Part.{of_cell}
 use Rattle.law.specs.laws.Lists.{pairs_imp, single, of_cell_of, of_cell_pairs}
 use Rattle.law.specs.Cluster.{Distinct}
-use Rattle.law.proofs.theorems.Operations.{Numbered}
+use Rattle.law.specs.laws.Operations.{Numbered}
 use Rattle.pairs.specs.Pairs.{Paired}
 use Rattle.clusters.specs.laws.Arrays.{Arrays, kind_at, cell_at, value_at, start_at, Fit, Fresh, IsWrite, Asked}
 use Rattle.clusters.specs.laws.Placing.{one_asks}

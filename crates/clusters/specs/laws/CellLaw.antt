@@ -10,7 +10,8 @@ use Rattle.law.specs.Part.{of_cell}
 use Rattle.law.specs.laws.Lists.{of_cell_in, of_cell_of}
 use Rattle.law.specs.Cluster.{Distinct, Member, Sourced}
 use Rattle.law.proofs.theorems.ClusterTheorem.{rule}
-use Rattle.law.proofs.theorems.Checked.{Write, ZeroRead, Sums, Checked, checked}
+use Rattle.law.specs.laws.Checked.{Write, ZeroRead, Sums, Checked}
+use Rattle.law.proofs.theorems.Checked.{checked}
 use Rattle.clusters.specs.laws.Arrays.{Arrays, cell_at, value_at, start_at, Fresh, IsWrite, Asked, Joins, ReadOf, ZeroOf, Unsourced, far, Tally, WriteOf, Crossed, Swept}
 use Rattle.clusters.specs.laws.Bridge.{Holds, EndedBy, alternating_one, alternating_zero, write_entry, cell_start, stop_below, kind_stop, read_stop, cell_stop, value_stop}
 use Rattle.clusters.specs.laws.Bridge.{start_stop, start_number, start_before, same_number, entry_write, entry_read, entry_done, asked_by, asked_value, asked_cell}

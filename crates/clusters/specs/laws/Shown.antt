@@ -22,7 +22,8 @@ use Rattle.law.specs.laws.Lists.{in_next}
 use Rattle.law.specs.laws.Steps.{Step, step_of, note_step, note_step_lem, ending, ending_keeps}
 use Rattle.law.specs.Standing.{has}
 use Rattle.law.specs.laws.Steps.Step.{asks, ends}
-use Rattle.law.proofs.theorems.Operations.{Matches, tied_next, tied_fresh}
+use Rattle.law.specs.laws.Operations.{Matches}
+use Rattle.law.proofs.theorems.Operations.{tied_next, tied_fresh}
 use Rattle.chains.specs.Chains.{Asks}
 use Rattle.clusters.specs.laws.Arrays.{Arrays, kind_at, cell_at, value_at}
 use Rattle.clusters.specs.laws.Bridge.{Holds, write_entry, cell_start, value_start, entry_write}

@@ -10,18 +10,19 @@ use mathlib.Core.List.Memᴰ.{append_right as mem_right}
 use mathlib.Core.List.Memᴰ.{map as mem_map}
 use mathlib.Core.List.Memᴰ.{of_map as mem_of_map}
 use Rattle.std.proofs.Math.Decide.{ℕ_discrete}
-use Rattle.record.specs.Entry.{client_limit, cell_limit}
+use Rattle.record.specs.Entry.{cell_limit}
 use Rattle.record.specs.declared.Entry.{Entry}
 use Rattle.record.specs.declared.Standing.{Standing}
 use Rattle.record.specs.Record.{fresh, standing_after}
 use Rattle.record.specs.Legal.{Follows, Legal}
 use Rattle.law.specs.Operation.{Op, asked, finished, open_of, note, notes, operations}
-use Rattle.law.specs.Order.{In, Pairs}
+use Rattle.law.specs.Order.{In}
 use Rattle.law.specs.laws.Lists.{in_next, pairs_imp, pairs_append, pairs_map, single}
 use Rattle.law.specs.laws.Steps.{Step, step_of, note_step, note_step_lem, ending, ending_keeps, ending_other, ending_open, kind_of, kind_some, put, standing_step, standing_step_lem}
 use Rattle.law.specs.laws.Steps.{MayStep, may_step}
 use Rattle.law.specs.Standing.{has, standing_from, standing}
 use Rattle.law.specs.laws.Steps.Step.{asks, ends}
+use Rattle.law.specs.laws.Operations.{Timed, Numbered, Matches}
 
 -- ---- one entry more
 
@@ -38,18 +39,6 @@ unfolding operations notes
 operations_next es e = notes_append 0 es (e ∷ []) [] ∙ ap (λ (m : ℕ). note m e (notes 0 es [])) (let k : 0 + length es ≡ length es = omega arith in k)
 
 -- ---- of any entries
-
--- x's times: it starts with its entry, ends after that, and before entry n; if it is unfinished no stop is told
-pub record Timed (n : ℕ) (x : Op) : Type 0 where
-  pub below : x.number < n
-  pub starts : x.start ≡ x.number
-  pub stops : T x.over → (x.start < x.stop) × (x.stop < n)
-  pub unstopped : x.over ≡ false → x.stop ≡ 0
-
--- the operations of n entries: numbers rise
-pub record Numbered (n : ℕ) (ops : List Op) : Type 0 where
-  pub rises : Pairs (λ x y. x.number < y.number) ops
-  pub timed : (x : Op) → In x ops → Timed n x
 
 timed_more : {n : ℕ} {x : Op} → Timed n x → Timed (suc n) x
 timed_more {n} {x} t =
@@ -115,16 +104,6 @@ pub stops_after : (es : List Entry) (x : Op) → In x (operations es) → T x.ov
 stops_after es x m t = let h = ((numbered es).timed x m).stops t in omega (arith, h.0)
 
 -- ---- of a record without a fault
-
--- What the standing says of the operations: a client's unfinished operation is of the kind that it has open, there is one where it has
--- something open, and never two.
-pub record Matches (st : Standing) (ops : List Op) : Type 0 where
-  pub eight : length st.has ≡ client_limit
-  pub client : (x : Op) → In x ops → x.client < client_limit
-  pub cell : (x : Op) → In x ops → x.cell < cell_limit
-  pub kind : (x : Op) → In x ops → x.over ≡ false → has st x.client ≡ kind_of x.write
-  pub found : (k : ℕ) → has st k ≢ 0 → (x : Op) × ((In x ops) × ((x.client ≡ k) × (x.over ≡ false)))
-  pub one : (x y : Op) → In x ops → In y ops → x.client ≡ y.client → x.over ≡ false → y.over ≡ false → x ≡ y
 
 -- a client that has nothing open has no unfinished operation
 pub none_open : {st : Standing} {ops : List Op} → Matches st ops → (k : ℕ) → has st k ≡ 0 → (x : Op) → In x ops → x.over ≡ false → x.client ≢ k

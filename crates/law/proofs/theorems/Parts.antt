@@ -21,7 +21,8 @@ use Rattle.law.specs.laws.Steps.{Step, step_of, client_of, note_step, note_step_
 use Rattle.law.specs.laws.Steps.{MayStep, may_step, step_on, moved_step, part_step}
 use Rattle.law.specs.Standing.{has}
 use Rattle.law.specs.laws.Steps.Step.{asks, ends}
-use Rattle.law.proofs.theorems.Operations.{Matches, none_open, still_open, has_same, has_other, tied_next, tied_fresh, fresh_none}
+use Rattle.law.specs.laws.Operations.{Matches}
+use Rattle.law.proofs.theorems.Operations.{none_open, still_open, has_same, has_other, tied_next, tied_fresh, fresh_none}
 use Rattle.law.specs.CellPart.{renumbered, Rises, CellPart}
 
 -- ---- places

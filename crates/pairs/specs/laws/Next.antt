@@ -24,7 +24,8 @@ use Rattle.law.specs.Order.{In}
 use Rattle.law.specs.laws.Lists.{in_next}
 use Rattle.law.specs.Standing.{has}
 use Rattle.law.specs.laws.Steps.{kind_of, ending, ending_keeps, ending_over, may_step}
-use Rattle.law.proofs.theorems.Operations.{Matches, none_open, still_open}
+use Rattle.law.specs.laws.Operations.{Matches}
+use Rattle.law.proofs.theorems.Operations.{none_open, still_open}
 use Rattle.pairs.specs.Pairs.{StartsAt, EndsAt, Paired}
 use Rattle.pairs.specs.laws.Noting.{Long, note_row}
 

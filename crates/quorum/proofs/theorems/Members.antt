@@ -5,13 +5,14 @@ use mathlib.Core.List.Memᴰ.{cases_cons as mem_cons}
 use mathlib.Core.List.Memᴰ.{head as here}
 use mathlib.Core.List.Memᴰ.{not-nil as mem_nil}
 use mathlib.Core.List.Memᴰ.{tail as there}
-use mathlib.Core.List.{List, [], ◌∷◌, Memᴰ}
+use mathlib.Core.List.{Memᴰ}
 use Rattle.std.specs.Int.Count.{ones, ones_step}
 use Rattle.std.proofs.lemmas.Bool.{eqb-false}
 use Rattle.quorum.specs.Sets.{has_replica, count_of, keep_if, members_from, members_of}
 use Rattle.quorum.specs.laws.Bits.{bit_is, has_one, has_zero}
 use Rattle.quorum.proofs.theorems.SetLaws.{has_below}
 use Rattle.quorum.specs.Shared.{Rising}
+use Rattle.quorum.specs.laws.Members.{Member, up_from}
 
 -- ---- length
 
@@ -38,12 +39,6 @@ members_count n s h =
     length_from n 0 s (rw e h) ∙ ap ones z
 
 -- ---- membership
-
--- a member of the list: a replica of n from k on that the set has
-pub record Member (n k s j : ℕ) : Type 0 where
-  pub from : k ≤ j
-  pub below : j < n + k
-  pub has : has_replica s j ≡ true
 
 member_from : (n k s j : ℕ) → Memᴰ j (members_from n k s) → Member n k s j
 unfolding members_from
@@ -96,11 +91,6 @@ pub members_rising : (n s : ℕ) → Rising (members_of n s)
 members_rising n s = rising_from n 0 s
 
 -- ---- every replica
-
--- n numbers from k on
-unfoldable pub up_from : ℕ → ℕ → List ℕ
-up_from zero k = []
-up_from (suc n) k = k ∷ up_from n (k + 1)
 
 every_from : (n k s : ℕ) → ((j : ℕ) → k ≤ j → j < n + k → has_replica s j ≡ true) → members_from n k s ≡ up_from n k
 unfolding members_from up_from

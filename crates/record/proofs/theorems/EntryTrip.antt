@@ -16,6 +16,7 @@ use Rattle.record.specs.declared.Found.TheVariants.{At, Fault}
 use Rattle.record.specs.Entry.{last_client, last_cell, longest_entry, entry_bytes, up_to, fields_at, entry_at}
 use Rattle.record.specs.Legal.{InRange}
 use Rattle.number.specs.Below.{byte_limit, Below, Bytes}
+use Rattle.record.specs.laws.EntryTrip.{Went, WasWritten}
 
 -- ---- what was written is read
 
@@ -83,13 +84,6 @@ reads_entry (Done client) s at more h e =
 pub never : {A : Type 0} {k : ℕ} {e : Entry} {next : ℕ} → Fault k ≡ At e next → A
 never p = let z : ◌≡◌ {A = ℕ} 0 1 = cc in absurd (omega arith)
 
--- the number that went on
-pub record Went (r : Number) (go : ℕ → ℕ → Found) (e : Entry) (next : ℕ) : Type 0 where
-  pub n : ℕ
-  pub m : ℕ
-  pub is : r ≡ Is n m
-  pub on : go n m ≡ At e next
-
 -- an entry was read, so its number was, and the rest after it
 pub went : (r : Number) (go : ℕ → ℕ → Found) (e : Entry) (next : ℕ) → and_then Fault r go ≡ At e next → Went r go e next
 unfolding and_then
@@ -105,13 +99,6 @@ passed limit refusal n next (Is m k) p = go (ltb limit m) refl p
     go : (t : Bool) → ltb limit m ≡ t → cond t (Refused refusal) (Is m k) ≡ Is n next → (Is m k ≡ Is n next) × (n ≤ limit)
     go true e q = let z : ◌≡◌ {A = ℕ} 0 1 = cc in absurd (omega arith)
     go false e q = let i : m ≡ n = cc in (q, omega (arith, ltb-false limit m e))
-
--- at place at of s stand the bytes of an entry in range, up to place next
-pub record WasWritten (s : List ℕ) (at : ℕ) (e : Entry) (next : ℕ) : Type 0 where
-  pub bytes : drop at s ≡ entry_bytes e ++ drop next s
-  pub place : next ≡ at + length (entry_bytes e)
-  pub range : InRange e
-  pub within : next ≤ length s
 
 same : {s : List ℕ} {at : ℕ} {e e' : Entry} {next next' : ℕ} → At e next ≡ At e' next' → WasWritten s at e next → WasWritten s at e' next'
 same {s} {at} p w = subst₂ (WasWritten s at) (cc) (cc) w

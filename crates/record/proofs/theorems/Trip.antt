@@ -16,6 +16,7 @@ use Rattle.record.specs.Legal.{InRange, Follows, Legal}
 use Rattle.number.specs.Below.{byte_limit, Below, Bytes}
 use Rattle.record.specs.laws.Steps.{ends, onward, first, empty}
 use Rattle.record.proofs.theorems.EntryTrip.{reads_entry, written_entry, entry_some, entry_few, below_none, below_append, entry_bytes_lem}
+use Rattle.record.specs.laws.Trip.{Source}
 
 -- ---- what is held has no fault
 
@@ -41,11 +42,6 @@ unfolding bytes_held
 reading_legal s es h p = held_legal (λ at. ltb at (length s)) (entry_at s) (λ at e next q. (written_entry s at e next h q).range) es p
 
 -- ---- what was written is read
-
--- numbers s that hold entries as f writes them: where those of an entry stand, it is found, and after the last one nothing stands
-pub record Source (more : ℕ → Bool) (found : ℕ → Found) (f : Entry → List ℕ) (s : List ℕ) : Type 0 where
-  pub here : (e : Entry) (at : ℕ) (rest : List ℕ) → InRange e → drop at s ≡ f e ++ rest → (more at ≡ true) × (found at ≡ At e (at + length (f e)))
-  pub over : (at : ℕ) → drop at s ≡ [] → more at ≡ false
 
 module _ (more : ℕ → Bool) (found : ℕ → Found) (f : Entry → List ℕ) (s : List ℕ) (src : Source more found f s) where
   pub holds : (es : List Entry) (left at n : ℕ) (st : Standing) → Follows st es → length es ≤ left → drop at s ≡ all_of f es → held_from more found left at n st ≡ entries es

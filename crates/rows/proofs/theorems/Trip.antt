@@ -9,7 +9,8 @@ use Rattle.record.specs.declared.Answer.TheVariants.{All, Refused}
 use Rattle.record.specs.Record.{entry_limit, fresh, Held, entries, fault, bytes_held, bytes_of}
 use Rattle.record.specs.Legal.{Legal}
 use Rattle.number.specs.Below.{Bytes, Words}
-use Rattle.record.proofs.theorems.Trip.{held_legal, Source, holds, from_length, from_none_lem, reading_legal, read_of_write, write_of_read}
+use Rattle.record.specs.laws.Trip.{Source}
+use Rattle.record.proofs.theorems.Trip.{held_legal, holds, from_length, from_none_lem, reading_legal, read_of_write, write_of_read}
 use Rattle.rows.specs.Row.{row_of, row_at}
 use Rattle.rows.specs.Rows.{rows_held, rows_of, Outcome, stored, read_into, write_into, read_outcome, write_outcome}
 use Rattle.rows.specs.laws.Storing.{stored_fits, stored_short}

@@ -14,7 +14,8 @@ use Rattle.record.specs.laws.Sheet.{sheet_reads}
 use Rattle.law.specs.Operation.{operations}
 use Rattle.law.specs.Order.{Lawful}
 use Rattle.law.specs.Part.{part_from, part_of}
-use Rattle.law.proofs.theorems.Sheet.{empty_lawful, good, good_lawful, bad, bad_cell}
+use Rattle.law.specs.laws.Sheet.{good, bad}
+use Rattle.law.proofs.theorems.Sheet.{empty_lawful, good_lawful, bad_cell}
 use Rattle.pairs.specs.Pairs.{deciding_bytes}
 use Rattle.pairs.specs.laws.Enough.{enough}
 use Rattle.verdict.specs.declared.Verdict.{Verdict}
