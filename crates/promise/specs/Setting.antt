@@ -3,7 +3,7 @@ use Rattle.std.specs.Prelude.{◌+◌, ◌*◌, ◌/◌, ◌%◌, ◌≡◌, tru
 use Rattle.std.proofs.Common.{arith}
 use Rattle.quorum.specs.declared.Quorums.{Quorums}
 use Rattle.quorum.specs.Sets.{with_replica, asks_enough, keeps_enough, within}
-use Rattle.quorum.proofs.theorems.SetLaws.{with_new, meet}
+use Rattle.quorum.proofs.theorems.SetLaws.{with_new}
 use Rattle.stamps.specs.StampOrder.{rank_limit, Rank}
 use Rattle.protocol.specs.View.{Setting}
 use Rattle.promise.specs.Has.{Has}

@@ -1,4 +1,4 @@
-use Rattle.std.proofs.Common.{◌-◌, rules}
+use Rattle.std.proofs.Common.{rules}
 use Rattle.back.specs.laws.Lines.{stored_none, stored_long, stored_next, stored_all}
 use Rattle.back.proofs.store_lines.Goals as goal
 

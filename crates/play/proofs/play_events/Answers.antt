@@ -1,4 +1,4 @@
-use Rattle.std.proofs.Common.{refl, sym, ◌∙◌, ◌-◌, arith}
+use Rattle.std.proofs.Common.{refl, sym, ◌∙◌, arith}
 use Rattle.play.specs.laws.Parts.{begins, all_used, none_found, stopped, went_on, few_done, still_long}
 use Rattle.play.proofs.play_events.Goals as goal
 

@@ -1,4 +1,4 @@
-use Rattle.std.proofs.Common.{rules, ◌-◌, refl, sym, ◌∙◌, arith}
+use Rattle.std.proofs.Common.{rules, refl, sym, ◌∙◌, arith}
 use Rattle.quorum.proofs.theorems.LowestMember.{rest_less}
 use Rattle.runs.specs.laws.Sending.{sending_place, sending_more}
 use Rattle.runs.specs.laws.Loop.{going_start, going_out, going_no, not_there, there_slot, there, going_plan, room_fits, going_send, going_entry, going_on}

@@ -1,4 +1,4 @@
-use Rattle.std.proofs.Common.{◌-◌, rules}
+use Rattle.std.proofs.Common.{rules}
 use Rattle.slots.specs.laws.UpTo.{upto_start}
 use Rattle.rack.specs.Places.{room_of}
 use Rattle.runs.specs.laws.Sending.{map_next, map_all}

@@ -1,4 +1,4 @@
-use Rattle.std.proofs.Common.{◌-◌, arith, rules}
+use Rattle.std.proofs.Common.{arith, rules}
 use Rattle.text.specs.laws.Printing.{printed_length}
 use Rattle.show.proofs.Laws.{no_entry, next_entry, all_entries}
 use Rattle.show.proofs.put_entries.Goals as goal

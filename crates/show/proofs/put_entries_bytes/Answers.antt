@@ -1,4 +1,4 @@
-use Rattle.std.proofs.Common.{◌-◌, arith, rules}
+use Rattle.std.proofs.Common.{arith, rules}
 use Rattle.text.specs.laws.Printing.{printed_length}
 use Rattle.show.proofs.Laws.{no_bytes, next_bytes, all_bytes_lem}
 use Rattle.show.proofs.put_entries_bytes.Goals as goal

@@ -1,4 +1,4 @@
-use Rattle.std.proofs.Common.{◌-◌, rules, eq-eqb, ne_eqb}
+use Rattle.std.proofs.Common.{rules, eq-eqb, ne_eqb}
 use Rattle.quorum.specs.Sets.{set_bits}
 use Rattle.text.specs.laws.Printing.{printed_length}
 use Rattle.show.proofs.Laws.{each_none, each_next, each_all}

@@ -1,4 +1,4 @@
-use Rattle.std.proofs.Common.{◌-◌, rules}
+use Rattle.std.proofs.Common.{rules}
 use Rattle.text.specs.laws.Printing.{printed_length}
 use Rattle.show.proofs.Laws.{each_none, each_next, each_all}
 use Rattle.show.proofs.put_replicas.Goals as goal

@@ -1,4 +1,4 @@
-use Rattle.std.proofs.Common.{◌-◌, refl, ◌∙◌, arith}
+use Rattle.std.proofs.Common.{refl, ◌∙◌, arith}
 use Rattle.words.proofs.Reading.{fills, fills_on, fills_long, fills_all, firsts_zero}
 use Rattle.words.proofs.clear.Goals as goal
 

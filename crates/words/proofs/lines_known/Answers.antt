@@ -1,4 +1,4 @@
-use Rattle.std.proofs.Common.{◌-◌, sym, ◌∙◌, true, rules}
+use Rattle.std.proofs.Common.{sym, ◌∙◌, rules}
 use Rattle.rack.specs.laws.Tests.{all_none, all_next, all_fail}
 use Rattle.layout.specs.Reading.{line_known}
 use Rattle.words.proofs.Reading.{all_end}

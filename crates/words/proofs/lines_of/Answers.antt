@@ -1,4 +1,4 @@
-use Rattle.std.proofs.Common.{◌-◌, rules}
+use Rattle.std.proofs.Common.{rules}
 use Rattle.layout.specs.Reading.{lines_in}
 use Rattle.words.proofs.Reading.{fills, fills_on, fills_end}
 use Rattle.words.proofs.lines_of.Goals as goal

@@ -1,4 +1,4 @@
-use Rattle.std.proofs.Common.{◌-◌, arith}
+use Rattle.std.proofs.Common.{arith}
 use Rattle.words.proofs.Reading.{fills, fills_on, fills_all}
 use Rattle.words.proofs.parties_of.Goals as goal
 

@@ -1,4 +1,4 @@
-use Rattle.std.proofs.Common.{◌-◌, arith}
+use Rattle.std.proofs.Common.{arith}
 use Rattle.words.proofs.Writing.{puts, puts_long, puts_on, puts_end}
 use Rattle.words.proofs.put.Goals as goal
 

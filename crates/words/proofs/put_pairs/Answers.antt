@@ -1,4 +1,4 @@
-use Rattle.std.proofs.Common.{◌-◌, ◌∙◌, rules}
+use Rattle.std.proofs.Common.{◌∙◌, rules}
 use Rattle.words.proofs.Writing.{stores, stores_long, stores_on, stores_end}
 use Rattle.words.proofs.put_pairs.Goals as goal
 

@@ -1,4 +1,4 @@
-use Rattle.std.proofs.Common.{◌-◌, arith}
+use Rattle.std.proofs.Common.{arith}
 use Rattle.words.proofs.Writing.{stores, stores_long, stores_on, stores_end}
 use Rattle.words.proofs.put_wire.Goals as goal
 
