@@ -10,6 +10,7 @@ import difflib
 import json
 import os
 import re
+import subprocess
 import sys
 
 COMMON = "/rattle/std/proofs/Common.antt"
@@ -284,7 +285,7 @@ def convert(folder, walk, module, common, function, params):
 
 def main(argv):
     names_folder, crates = argv[0], argv[1:]
-    kit = os.path.realpath(os.environ.get("RATTLE_KIT", "/opt/rattle"))
+    kit = os.path.dirname(subprocess.run(["rt", "doc"], capture_output=True, text=True, check=True).stdout.strip())
     common = common_names(kit)
     for crate in crates:
         with open(os.path.join(names_folder, "crates", crate, "names.json"), encoding="utf-8") as f:
