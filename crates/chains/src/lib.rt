@@ -15,14 +15,14 @@ pub const CHAINS: usize = 2 * ENTRY_LIMIT;
 const WIDE_CHAINS: u64 = CHAINS as u64;
 
 // What linking the writes gives: all are linked, or the first that asks again.
-#[derive(Drop)]
+#[derive(Clone, Copy)]
 pub enum Linked {
     All,
     Again(usize),
 }
 
 // What a search of the table gives.
-#[derive(Drop)]
+#[derive(Clone, Copy)]
 pub enum Write {
     At(usize),
     None,

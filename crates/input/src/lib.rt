@@ -6,7 +6,7 @@ ghost use Rattle.std.specs.Counts.{IsPrefixLen};
 use std::io::Read;
 
 // How a reading came to its end: the lent bytes are full, a read gave no byte, or a read failed.
-#[derive(Drop)]
+#[derive(Clone, Copy)]
 pub enum Ending {
     Full,
     Ended,
@@ -14,7 +14,7 @@ pub enum Ending {
 }
 
 // How many bytes were read, and how that came to its end.
-#[derive(Drop)]
+#[derive(Clone, Copy)]
 pub struct Reading {
     pub count: usize,
     pub ending: Ending,

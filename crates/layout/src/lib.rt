@@ -2,7 +2,7 @@
 #![tactic(auto)]
 
 // How many events were done, and the refusal, 0 for none.
-#[derive(Drop)]
+#[derive(Clone, Copy)]
 pub struct WordsAnswer {
     pub done: usize,
     pub refusal: u8,

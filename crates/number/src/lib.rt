@@ -7,14 +7,14 @@ ghost use Rattle.number.specs.laws.Steps.{read_go};
 ghost use Rattle.number.specs.Value.{alternating_of, signed_of};
 
 // What reading one number gives: the number and the place after it, or the refusal.
-#[derive(Drop)]
+#[derive(Clone, Copy)]
 pub enum Number {
     Is(u32, usize),
     Refused(u8),
 }
 
 // What writing bytes at a place gives, a number's or an entry's: the place after them, or that they don't fit.
-#[derive(Drop)]
+#[derive(Clone, Copy)]
 pub enum Put {
     Next(usize),
     NoRoom,

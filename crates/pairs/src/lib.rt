@@ -27,7 +27,7 @@ fn lengths(
 }
 
 // What is kept of an entry; and its client, whose open operation starts at `start`.
-#[derive(Drop)]
+#[derive(Clone, Copy)]
 struct Row {
     client: Client,
     kind: u8,

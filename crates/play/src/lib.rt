@@ -17,7 +17,7 @@ pub const LONGEST: usize = 2097152;
 
 // What is answered of a script's record: the refusal of its fault and the byte where that begins; or the refusal of its run, 0 for none, and how many
 // bytes were written.
-#[derive(Drop)]
+#[derive(Clone, Copy)]
 pub enum Recorded {
     Fault(u8, usize),
     Run(u8, usize),

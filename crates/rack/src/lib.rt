@@ -43,14 +43,14 @@ pub struct Rack {
 }
 
 // What the maker gives: the refusal, 0 for none, and the rack.
-#[derive(Drop)]
+#[derive(Clone, Copy)]
 pub struct Made {
     pub refusal: u8,
     pub rack: Rack,
 }
 
 // What a schedule gives: how many events were done, the refusal that stopped it, 0 for none, and the rack after exactly that many events.
-#[derive(Drop)]
+#[derive(Clone, Copy)]
 pub struct Ran {
     pub done: usize,
     pub refusal: u8,

@@ -12,7 +12,7 @@ use number::Number;
 use record::{Answer, Cell, Client, ENTRY_LIMIT, Entry, Found, Standing};
 
 // The reading head: the record's bytes and its place in them.
-#[derive(Drop)]
+#[derive(Clone, Copy)]
 pub struct ReadingHead<'a> {
     pub bytes: &'a [u8],
     pub place: usize,

@@ -56,7 +56,7 @@ pub struct Standing {
 }
 
 // What reading or writing a record gives: how many entries or bytes, or the refusal with its entry's number.
-#[derive(Drop)]
+#[derive(Clone, Copy)]
 pub enum Answer {
     All(usize),
     Refused(u8, usize),

@@ -92,7 +92,7 @@ fn room_after(room: usize, clear: bool, to: Set) -> usize
 // ---- what the loop starts with
 
 // Which slots of the wire are free, and how many.
-#[derive(Drop)]
+#[derive(Clone, Copy)]
 struct Start {
     free: [u64; slots::WORDS],
     room: usize,

@@ -10,14 +10,14 @@ use number::Number;
 
 // Four numbers and the place after them: the head of a script, or an event as its kind, two fields and the value as in the record. Or the refusal, and
 // the byte where the number at fault begins.
-#[derive(Drop)]
+#[derive(Clone, Copy)]
 pub enum Words {
     Are(u32, u32, u32, u32, usize),
     Refused(u8, usize),
 }
 
 // How many events were stored, and the place after them.
-#[derive(Drop)]
+#[derive(Clone, Copy)]
 pub struct Filled {
     pub count: usize,
     pub next: usize,

@@ -23,7 +23,7 @@ const FAR: u16 = u16::MAX;
 const NO_CELL: u8 = Cell::LIMIT as u8;
 
 // What the judge says of a record.
-#[derive(Drop)]
+#[derive(Clone, Copy)]
 pub enum Verdict {
     Lawful,
     Unlawful(Cell),
