@@ -2,9 +2,11 @@
 -- does", and the faults 24 to 28 of "The record and its bytes".
 use Rattle.std.specs.Int.{w32}
 use Rattle.std.proofs.Common.{SFits}
+use Rattle.method.specs.declared.Operation.{Operation}
+use Rattle.method.specs.declared.Message.{Message}
 use Rattle.method.specs.declared.Event.{Event}
 use Rattle.method.specs.declared.Event.TheVariants.{StartRead, StartWrite, Deliver, Lose, Copy, Resend, Stop, Off, On, Unknown}
-use Rattle.std.specs.Prelude.{ℕ, ◌≤◌, ◌<◌, ◌≡◌, List, [], ◌∷◌, get_or, length}
+use Rattle.std.specs.Prelude.{ℕ, ◌≤◌, ◌<◌, ◌≡◌, List, [], ◌∷◌, get_or, length, None, Some, Option}
 use Rattle.record.specs.declared.Entry.{Entry}
 use Rattle.record.specs.declared.Entry.TheVariants.{ReadAsked, WriteAsked, Told, Done}
 use Rattle.record.specs.Entry.{client_limit}
@@ -14,14 +16,8 @@ use Rattle.law.specs.Standing.{has, standing}
 use Rattle.stamps.specs.declared.Pair.{Pair}
 use Rattle.method.specs.declared.Body.{Body}
 use Rattle.method.specs.declared.Body.TheVariants.{Ask, Tell, Keep, Kept}
-use Rattle.method.specs.declared.InSlot.{InSlot}
-use Rattle.method.specs.declared.InSlot.TheVariants.{Empty, Full}
 use Rattle.method.specs.declared.Goal.{Goal}
 use Rattle.method.specs.declared.Goal.TheVariants.{Read, Write}
-use Rattle.method.specs.declared.Work.{Work}
-use Rattle.method.specs.declared.Work.TheVariants.{Idle, Open}
-use Rattle.method.specs.declared.Holding.{Holding}
-use Rattle.method.specs.declared.Holding.TheVariants.{NoPair, Holds}
 use Rattle.method.specs.declared.Phase.{Phase}
 use Rattle.method.specs.declared.Phase.TheVariants.{Asking, Keeping}
 use Rattle.rack.specs.declared.Settings.{Settings}
@@ -50,9 +46,9 @@ open_for Read = 1
 open_for (Write v) = 2
 
 -- nothing is 0
-abbrev pub open_in : Work → ℕ
-open_in Idle = 0
-open_in (Open o) = open_for o.goal
+abbrev pub open_in : Option Operation → ℕ
+open_in None = 0
+open_in (Some o) = open_for o.goal
 
 -- ---- entries
 
@@ -82,9 +78,9 @@ BodySmall (Keep p) = PairSmall p
 BodySmall Kept = Unit {0}
 
 -- the message that the slot holds, if any, has a value of 32 bits
-abbrev pub HeldSmall : InSlot → Type 0
-HeldSmall Empty = Unit {0}
-HeldSmall (Full m) = BodySmall m.body
+abbrev pub HeldSmall : Option Message → Type 0
+HeldSmall None = Unit {0}
+HeldSmall (Some m) = BodySmall m.body
 
 -- the value that a write asks for is one of 32 bits
 abbrev pub GoalSmall : Goal → Type 0
@@ -92,9 +88,9 @@ GoalSmall Read = Unit {0}
 GoalSmall (Write v) = SFits w32 v
 
 -- the value that is held, if any, is one of 32 bits
-abbrev pub HoldingSmall : Holding → Type 0
-HoldingSmall NoPair = Unit {0}
-HoldingSmall (Holds p) = PairSmall p
+abbrev pub HoldingSmall : Option Pair → Type 0
+HoldingSmall None = Unit {0}
+HoldingSmall (Some p) = PairSmall p
 
 -- the value held in a phase is one of 32 bits
 abbrev pub PhaseSmall : Phase → Type 0
@@ -102,9 +98,9 @@ PhaseSmall (Asking held) = HoldingSmall held
 PhaseSmall (Keeping held) = PairSmall held
 
 -- the values of an open operation are of 32 bits: the one to be written, and the one held
-abbrev pub WorkSmall : Work → Type 0
-WorkSmall Idle = Unit {0}
-WorkSmall (Open o) = GoalSmall o.goal × PhaseSmall o.phase
+abbrev pub WorkSmall : Option Operation → Type 0
+WorkSmall None = Unit {0}
+WorkSmall (Some o) = GoalSmall o.goal × PhaseSmall o.phase
 
 -- every value that a read could be told, wherever it now is
 pub record FitsWords (r : Rack) : Type 0 where

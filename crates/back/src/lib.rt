@@ -8,40 +8,25 @@ ghost use Rattle.rows.specs.Rows.{rows_of, write_outcome, Leaves};
 ghost use Rattle.rack.specs.Places.{record_of};
 ghost use Rattle.back.specs.laws.Lines.{entries_of};
 
-use rack::{Line, Rack};
+use rack::Rack;
 use record::{Answer, ENTRY_LIMIT};
 
 // The rows of the first n lines.
-fn store_lines(lines: [Line; ENTRY_LIMIT], n: usize, rows: &mut [u32])
+fn store_lines(rack: &Rack, n: usize, rows: &mut [u32])
     requires { (n ≤ entry_limit) × (4 * n ≤ length rows.old) }
-    ensures { rows.new ≡ sets rows.old 0 (rows_of (entries_of n lines)) }
+    ensures { rows.new ≡ sets rows.old 0 (rows_of (entries_of n rack.now.lines)) }
 {
-    let mut i: usize = 0;
-    while i < n {
-        let line = lines[i];
-        let entry = line.entry;
-        rows::store_row(rows, 4 * i, entry);
-        i += 1;
+    for i in 0..n {
+        rows::store_row(rows, 4 * i, rack.lines[i].entry);
     }
 }
 
-// How many lines are the record's: a rack that isn't sound may count more than there are.
-fn entries_in(lines: [Line; ENTRY_LIMIT], count: usize) -> usize
-    ensures { (result ≤ length lines) × ((length lines ≡ entry_limit) × (entries_of result lines ≡ entries_of count lines)) }
-{
-    if ENTRY_LIMIT < count {
-        return ENTRY_LIMIT;
-    }
-    count
-}
-
-// Writes a rack's record into lent bytes.
+// Writes a rack's record into lent bytes. A rack that isn't sound may count more lines than there are.
 pub fn write_record_of(rack: Rack, bytes: &mut [u8]) -> Answer
     ensures { Leaves (write_outcome (rows_of (record_of rack)) bytes.old) result bytes.new }
 {
-    let lines = rack.lines;
-    let n = entries_in(lines, rack.count);
+    let n = rack.count.min(ENTRY_LIMIT);
     let mut rows = [0u32; 4 * ENTRY_LIMIT];
-    store_lines(lines, n, &mut rows);
+    store_lines(&rack, n, &mut rows);
     writer::write_record(&rows[..4 * n], bytes)
 }

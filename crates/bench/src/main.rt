@@ -1,10 +1,6 @@
 // The bench sheet's lines that have no star: run on the product's own calls, a line each in the paper's words, and compared with the file `stdout`.
 #![tactic(auto)]
 
-ghost use Rattle.std.specs.Prelude.{◌≤◌};
-
-use method::InSlot;
-use number::Number;
 use rack::{Rack, Ran};
 use record::{Cell, Client, Replica};
 
@@ -31,8 +27,8 @@ fn end(out: &impl Print, refusal: u8, done: &[u8]) {
 fn read(out: &impl Print, words: &[u8], bytes: &[u8]) {
     say(out, words);
     match number::read_number(bytes, 0) {
-        Number::Is(_, _) => end(out, 0, b"a number"),
-        Number::Refused(k) => end(out, k, b""),
+        Ok(_) => end(out, 0, b"a number"),
+        Err(k) => end(out, k.number(), b""),
     }
 }
 
@@ -43,27 +39,9 @@ fn make(out: &impl Print, words: &[u8], replicas: u32, clients: u32, cells: u32)
     end(out, made.refusal, b"made");
 }
 
-// How many messages a slot holds.
-fn messages(held: InSlot) -> u64
-    ensures { result ≤ 1 }
-{
-    match held {
-        InSlot::Empty => 0,
-        InSlot::Full(_) => 1,
-    }
-}
-
 // How many slots of the wire are used.
-fn used(rack: Rack) -> u64 {
-    let mut count: u64 = 0;
-    let mut i: usize = 0;
-    while i < Rack::SLOTS {
-        let slot = rack.wire[i];
-        let held = slot.held;
-        count += messages(held);
-        i += 1;
-    }
-    count
+fn used(rack: &Rack) -> u64 {
+    rack.wire.iter().filter(|slot| slot.held.is_some()).count() as u64
 }
 
 // A start sends an ask to each replica, copies of the first take the slots that are left, and one more is refused.
@@ -83,27 +61,23 @@ const CELLS: u32 = Cell::LIMIT as u32;
 // Those events on the largest rack.
 fn fill() -> Ran {
     let mut events = [0u32; 4 * EVENTS];
-    let mut i: usize = 1;
-    while i < EVENTS {
+    for i in 1..EVENTS {
         events[4 * i] = 4;
-        i += 1;
     }
     let made = Rack::made(REPLICAS, CLIENTS, CELLS);
-    let rack = made.rack;
-    schedule::run(rack, EVENTS, &events)
+    schedule::run(made.rack, EVENTS, &events)
 }
 
 // What a full wire allows.
 fn full(out: &impl Print) {
     let filled = fill();
-    let rack = filled.rack;
     say(out, b"With all ");
-    say_number(out, used(rack));
+    say_number(out, used(&filled.rack));
     say(out, b" slots used copy is ");
     end(out, filled.refusal, b"done");
-    let delivered = schedule::step(rack, 2, 0, 0, 0);
+    let delivered = schedule::step(filled.rack, 2, 0, 0, 0);
     say(out, b"With all ");
-    say_number(out, used(rack));
+    say_number(out, used(&filled.rack));
     say(
         out,
         b" slots used delivery of an ask to a replica that is on is ",

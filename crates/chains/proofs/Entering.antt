@@ -9,12 +9,18 @@ use native.Mathlib.Decide.{ℕ_discrete}
 use lib.ListN.{get_or, set, length-set}
 use lib.Seq.{get_or-set_same, get_or-set_other}
 use Rattle.record.specs.Record.{entry_limit}
-use Rattle.chains.specs.declared.Linked.TheVariants.{All as all_linked, Again as again_at}
-use Rattle.chains.specs.declared.Write.{Write}
-use Rattle.chains.specs.declared.Write.TheVariants.{At, None}
+use Rattle.std.specs.Prelude.{Option, Some, None}
+use Rattle.std.specs.Option.{is_some}
 use Rattle.chains.specs.Chains.{Again, NoneAgain}
 use Rattle.chains.specs.Table.{chain_count, home_at, Homed, Latest, Chained, Empty, Found, Stays, Linking}
 use Rattle.chains.specs.laws.Entering.{Decides, Only, Entered}
+
+-- a test's two answers
+pub tells_yes : {P : Type 0} → P → Decides P true
+tells_yes x = record { yes = λ _. x; no = λ e. absurd (true≢false e) }
+
+pub tells_no : {P : Type 0} → (P → ⊥) → Decides P false
+tells_no n = record { yes = λ e. absurd (true≢false (sym e)); no = λ _. n }
 
 -- below n + 1 is n, or below n
 upper : {n p : ℕ} → p < n + 1 → (p ≡ n) ⊎ (p < n)
@@ -90,11 +96,10 @@ module _ {kinds cells values : List ℕ} where
       next_only = record { same = λ q h. get_or-set_other next n q (get_or head b 0) 0 (λ e. h e write) }
 
   -- whether a write asks again, by what the search for it gave
-  pub again_found : {p : ℕ} {w : ℕ} {r : Write} → get_or kinds p 0 ≡ 1 → Found kinds cells values p (get_or cells p 0) (get_or values p 0) r → r ≡ At w → Again kinds cells values p
-  again_found {p} {w} k f e = let (l, a) = f.at w e in record { write = k; again = inr (w, (l, a)) }
-
-  pub again_not : {p : ℕ} {r : Write} → (get_or values p 0 ≡ 0 → ⊥) → Found kinds cells values p (get_or cells p 0) (get_or values p 0) r → r ≡ None → Again kinds cells values p → ⊥
-  again_not some f e a = ⊎_elim some (λ (q, (l, b)). f.none e q l b) a.again
+  pub again_told : {p : ℕ} (r : Option ℕ) → get_or kinds p 0 ≡ 1 → (get_or values p 0 ≡ 0 → ⊥) → Found kinds cells values p (get_or cells p 0) (get_or values p 0) r
+      → Decides (Again kinds cells values p) (is_some r)
+  again_told (Some w) k some f = let (l, a) = f.at w refl in tells_yes (record { write = k; again = inr (w, (l, a)) })
+  again_told None k some f = tells_no (λ a. ⊎_elim some (λ (q, (l, b)). f.none refl q l b) a.again)
 
   -- none asks again past an entry that does not
   pub none_more : {n : ℕ} → (Again kinds cells values n → ⊥) → NoneAgain kinds cells values n → NoneAgain kinds cells values (n + 1)
@@ -102,13 +107,6 @@ module _ {kinds cells values : List ℕ} where
 
 pub none_yet : (kinds cells values : List ℕ) → NoneAgain kinds cells values 0
 none_yet kinds cells values p l a = omega arith
-
--- a test's two answers
-pub tells_yes : {P : Type 0} → P → Decides P true
-tells_yes x = record { yes = λ _. x; no = λ e. absurd (true≢false e) }
-
-pub tells_no : {P : Type 0} → (P → ⊥) → Decides P false
-tells_no n = record { yes = λ e. absurd (true≢false (sym e)); no = λ _. n }
 
 module _ {kinds cells values : List ℕ} {was head next : List ℕ} where
   pub is_entered : {before : List ℕ} {p : ℕ} → Chained kinds cells values (p + 1) head next → (Again kinds cells values p → ⊥)
@@ -122,7 +120,7 @@ module _ {kinds cells values : List ℕ} {was head next : List ℕ} where
   }
 
   pub links_all : {n p : ℕ} → p ≤ n → n ≤ p → Chained kinds cells values p head next → NoneAgain kinds cells values p → Stays kinds p was next
-      → Linking kinds cells values n was head next all_linked
+      → Linking kinds cells values n was head next None
   links_all {n} {p} a b t none stays =
       let e : p ≡ n = omega arith in record {
         all = λ _. subst (λ x. NoneAgain kinds cells values x × Chained kinds cells values x head next) e (none, t);
@@ -133,7 +131,7 @@ module _ {kinds cells values : List ℕ} {was head next : List ℕ} where
       }
 
   pub links_again : {n p : ℕ} → p < n → Again kinds cells values p → NoneAgain kinds cells values p → Chained kinds cells values p head next
-      → Stays kinds p was next → Linking kinds cells values n was head next (again_at p)
+      → Stays kinds p was next → Linking kinds cells values n was head next (Some p)
   links_again {n} {p} l a none t stays = record {
     all = λ f. (let z : ◌≡◌ {A = ℕ} 0 1 = cc in absurd (omega arith));
     all_stays = λ f. (let z : ◌≡◌ {A = ℕ} 0 1 = cc in absurd (omega arith));

@@ -6,7 +6,7 @@ use native.Mathlib.Omega.{arith}
 use native.Mathlib.Decide.{dec_lt}
 use lib.ListN.{get_or}
 use Rattle.record.specs.Record.{entry_limit}
-use Rattle.chains.specs.declared.Write.TheVariants.{At, None}
+use Rattle.std.specs.Prelude.{Some, None}
 use Rattle.chains.specs.Chains.{Asks}
 use Rattle.chains.specs.Table.{chain_count, home_of, Homed, Latest, Chained, Found}
 
@@ -57,7 +57,7 @@ module _ {kinds cells values : List ℕ} {n : ℕ} {head next : List ℕ} {cell 
           record { below = (let q = h.below in omega arith); write = h.write; home = h.home });
     }
 
-    pub walk_found : (get_or cells (link - 1) 0 ≡ cell) × (get_or values (link - 1) 0 ≡ value) → Found kinds cells values n cell value (At (link - 1))
+    pub walk_found : (get_or cells (link - 1) 0 ≡ cell) × (get_or values (link - 1) 0 ≡ value) → Found kinds cells values n cell value (Some (link - 1))
     walk_found (ec, ev) = record {
       at = λ x e. (let q : link - 1 ≡ x = cc in let h = w.on some in
           subst (λ y. (y < n) × Asks kinds cells values y cell value) q (h.below, record { write = h.write; cell = ec; value = ev }));

@@ -1,11 +1,7 @@
 -- The table of writes: chains by hash, and what linking the writes and searching the table give. A link is one more than an entry's number,
 -- and 0 where there is none.
-use Rattle.std.specs.Prelude.{ℕ, ◌+◌, ◌*◌, ◌-◌, ◌/◌, ◌%◌, ◌≤◌, ◌<◌, ◌≡◌, List, length, get_or}
+use Rattle.std.specs.Prelude.{ℕ, ◌+◌, ◌*◌, ◌-◌, ◌/◌, ◌%◌, ◌≤◌, ◌<◌, ◌≡◌, Option, Some, None, List, length, get_or}
 use Rattle.record.specs.Record.{entry_limit}
-use Rattle.chains.specs.declared.Linked.{Linked}
-use Rattle.chains.specs.declared.Linked.TheVariants.{All as all_linked, Again as again_at}
-use Rattle.chains.specs.declared.Write.{Write}
-use Rattle.chains.specs.declared.Write.TheVariants.{At, None}
 use Rattle.chains.specs.Chains.{Asks, Again, NoneAgain}
 
 -- how many chains there are: twice as many as a record has entries
@@ -46,9 +42,9 @@ pub record Empty (head next : List ℕ) : Type 0 where
   pub no_heads : (h : ℕ) → get_or head h 0 ≡ 0
 
 -- what searching the table gives: the last write that asks this, or none does
-pub record Found (kinds cells values : List ℕ) (n cell value : ℕ) (r : Write) : Type 0 where
-  pub at : (w : ℕ) → r ≡ At w → (w < n) × Asks kinds cells values w cell value
-  pub latest : (w : ℕ) → r ≡ At w → (p : ℕ) → w < p → p < n → Asks kinds cells values p cell value → ⊥
+pub record Found (kinds cells values : List ℕ) (n cell value : ℕ) (r : Option ℕ) : Type 0 where
+  pub at : (w : ℕ) → r ≡ Some w → (w < n) × Asks kinds cells values w cell value
+  pub latest : (w : ℕ) → r ≡ Some w → (p : ℕ) → w < p → p < n → Asks kinds cells values p cell value → ⊥
   pub none : r ≡ None → (p : ℕ) → p < n → Asks kinds cells values p cell value → ⊥
 
 -- next stays as it was where no write below n stands
@@ -56,15 +52,15 @@ pub record Stays (kinds : List ℕ) (n : ℕ) (was next : List ℕ) : Type 0 whe
   pub same : (p : ℕ) → (p < n → get_or kinds p 0 ≡ 1 → ⊥) → get_or next p 0 ≡ get_or was p 0
 
 -- what linking the writes gives: the whole table and none asks again; or the first that does, and the table of the writes before it
-pub record Linking (kinds cells values : List ℕ) (n : ℕ) (was head next : List ℕ) (r : Linked) : Type 0 where
-  pub all : r ≡ all_linked → NoneAgain kinds cells values n × Chained kinds cells values n head next
-  pub all_stays : r ≡ all_linked → Stays kinds n was next
-  pub again : (p : ℕ) → r ≡ again_at p → (p < n) × (Again kinds cells values p × NoneAgain kinds cells values p)
-  pub begun : (p : ℕ) → r ≡ again_at p → Chained kinds cells values p head next
-  pub begun_stays : (p : ℕ) → r ≡ again_at p → Stays kinds p was next
+pub record Linking (kinds cells values : List ℕ) (n : ℕ) (was head next : List ℕ) (r : Option ℕ) : Type 0 where
+  pub all : r ≡ None → NoneAgain kinds cells values n × Chained kinds cells values n head next
+  pub all_stays : r ≡ None → Stays kinds n was next
+  pub again : (p : ℕ) → r ≡ Some p → (p < n) × (Again kinds cells values p × NoneAgain kinds cells values p)
+  pub begun : (p : ℕ) → r ≡ Some p → Chained kinds cells values p head next
+  pub begun_stays : (p : ℕ) → r ≡ Some p → Stays kinds p was next
 
 -- two answers that are one, and leave the same table in every number
-pub record SameLink (r r' : Linked) (head head' next next' : List ℕ) : Type 0 where
+pub record SameLink (r r' : Option ℕ) (head head' next next' : List ℕ) : Type 0 where
   pub answer : r ≡ r'
   pub heads : head ≡ head'
   pub nexts : next ≡ next'

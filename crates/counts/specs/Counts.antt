@@ -1,6 +1,7 @@
 -- What is counted of a run, from the events done. The paper: "From a fresh rack: slots in use equal messages sent plus copies, less deliveries, less
 -- losses, each counted from the events done. A finished operation has cost 2 requests per replica, plus its resends."
-use Rattle.std.specs.Prelude.{ℕ, ◌+◌, ◌*◌, Bool, true, false, cond, not, ◌&&◌, List, [], ◌∷◌, ltb, eqb}
+use Rattle.std.specs.Prelude.{ℕ, ◌+◌, ◌*◌, Bool, true, false, cond, not, ◌&&◌, List, [], ◌∷◌, ltb, eqb, None, Some, Option}
+use Rattle.method.specs.declared.Operation.{Operation}
 use Rattle.record.specs.declared.Entry.{Entry}
 use Rattle.record.specs.declared.Entry.TheVariants.{ReadAsked, WriteAsked, Told, Done}
 use Rattle.slots.specs.Free.{count_from}
@@ -8,8 +9,6 @@ use Rattle.method.specs.declared.Body.{Body}
 use Rattle.method.specs.declared.Body.TheVariants.{Ask, Tell, Keep, Kept}
 use Rattle.method.specs.declared.Message.{Message}
 use Rattle.rack.specs.declared.Slot.{Slot}
-use Rattle.method.specs.declared.Work.{Work}
-use Rattle.method.specs.declared.Work.TheVariants.{Idle, Open}
 use Rattle.method.specs.declared.Phase.{Phase}
 use Rattle.method.specs.declared.Phase.TheVariants.{Asking, Keeping}
 use Rattle.method.specs.declared.Party.{Party}
@@ -111,9 +110,9 @@ phase_cost n (Asking held) = n
 phase_cost n (Keeping held) = 2 * n
 
 -- what the last operation of a client has cost so far
-unfoldable pub cost_in : ℕ → Work → ℕ
-cost_in n Idle = 2 * n
-cost_in n (Open o) = phase_cost n o.phase
+unfoldable pub cost_in : ℕ → Option Operation → ℕ
+cost_in n None = 2 * n
+cost_in n (Some o) = phase_cost n o.phase
 
 -- what its operation k, from 1 on, has cost: an earlier one two to each, a later one nothing yet
 unfoldable pub cost_of : ℕ → Party → ℕ → ℕ

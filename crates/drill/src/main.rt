@@ -13,25 +13,17 @@ fn say(rt: &impl Print, script: &[u8]) {
     let _ = rt.write_all(&lines[..n]);
 }
 
-// Reads a script into the lent bytes. One that fills them is too long; a part of one is not run.
-fn answer(rt: HostRuntime, bytes: &mut [u8]) {
+// A script that fills the bytes is too long; a part of one is not run.
+fn main(rt: HostRuntime) {
+    let mut bytes = [0u8; TOO_LONG];
     let mut stdin = rt.stdin();
-    let reading = input::fill(&mut stdin, bytes);
-    let n = reading.count;
-    let ending = reading.ending;
-    match ending {
+    input::answer(&mut stdin, &mut bytes, |script, ending| match ending {
         Ending::Failed => {
             let _ = rt.write_all(b"input can't be read to its end\n");
         }
-        Ending::Ended => say(&rt, &bytes[..n]),
+        Ending::Ended => say(&rt, script),
         Ending::Full => {
             let _ = rt.write_all(b"script longer than 2097152 bytes\n");
-            input::drop_rest(&mut stdin);
         }
-    }
-}
-
-fn main(rt: HostRuntime) {
-    let mut bytes = [0u8; TOO_LONG];
-    answer(rt, &mut bytes);
+    });
 }

@@ -1,10 +1,9 @@
 -- What the wrong answers that are ruled out are said of: examples.
-use Rattle.std.specs.Prelude.{Bool}
+use Rattle.std.specs.Prelude.{Bool, Ok}
 use Rattle.method.specs.declared.Body.TheVariants.{Keep}
 use Rattle.method.specs.declared.Message.{Message}
 use Rattle.method.specs.declared.Note.{Note}
-use Rattle.method.specs.declared.Decision.{Decision}
-use Rattle.method.specs.declared.Decision.TheVariants.{Go}
+use Rattle.method.specs.Decision.{Decision}
 use Rattle.stamps.specs.Stamp.{fresh_pair}
 use Rattle.method.specs.Plan.{message_of}
 use Rattle.rack.specs.Places.{idle}
@@ -16,4 +15,4 @@ message = message_of (record { 0 = 1 }) (record { 0 = 2 }) (record { 0 = 3 }) 1 
 
 -- a plan that empties its slot or not, adds an entry or none, and sends to three replicas
 abbrev pub sending : Bool → Note → Decision
-sending clear note = Go (record { party = idle; pair = fresh_pair; power = 0b111; clear = clear; note = note; message = message; to = 0b111 })
+sending clear note = Ok (record { party = idle; pair = fresh_pair; power = 0b111; clear = clear; note = note; message = message; to = 0b111 })

@@ -1,30 +1,27 @@
 -- Answers packed into one number, for C: bits 0 to 31 a number, bits 32 to 39 the refusal, 0 for none, bits 40 to 47 a count of bytes.
-use Rattle.std.specs.Prelude.{ℕ, ◌+◌, ◌-◌, ◌*◌, ◌^◌, ◌≡◌, List}
-use Rattle.number.specs.declared.Number.{Number}
-use Rattle.number.specs.declared.Number.TheVariants.{Is, Refused}
-use Rattle.number.specs.declared.Put.{Put}
-use Rattle.number.specs.declared.Put.TheVariants.{Next, NoRoom}
+use Rattle.std.specs.Prelude.{ℕ, ◌+◌, ◌-◌, ◌*◌, ◌^◌, ◌≡◌, List, Ok, Err, Some, None, Option}
+use Rattle.refusal.specs.Number.{paper_number}
+use Rattle.number.specs.Number.{Number}
 use Rattle.verdict.specs.Verdict.{taken_for, Judges}
 use Rattle.verdict.specs.declared.Verdict.{Verdict}
 use Rattle.verdict.specs.declared.Verdict.TheVariants.{Lawful as says_lawful, Unlawful as says_unlawful, Refused as says_refused}
-use Rattle.record.specs.declared.Answer.{Answer}
-use Rattle.record.specs.declared.Answer.TheVariants.{All, Refused as Unread}
+use Rattle.record.specs.Record.{Answer}
 use Rattle.layout.specs.declared.WordsAnswer.{WordsAnswer}
 
 -- a number that was read at place at: itself and how many bytes it takes
 unfoldable pub packed_number : ℕ → Number → ℕ
-packed_number at (Is n next) = n + 2 ^ 40 * (next - at)
-packed_number at (Refused k) = 2 ^ 32 * k
+packed_number at (Ok (n, next)) = n + 2 ^ 40 * (next - at)
+packed_number at (Err k) = 2 ^ 32 * paper_number k
 
 -- a number that was written at place at: how many bytes it took
-unfoldable pub packed_put : ℕ → Put → ℕ
-packed_put at (Next next) = 2 ^ 40 * (next - at)
-packed_put at NoRoom = 2 ^ 32 * 20
+unfoldable pub packed_put : ℕ → Option ℕ → ℕ
+packed_put at (Some next) = 2 ^ 40 * (next - at)
+packed_put at None = 2 ^ 32 * 20
 
 -- a record that was read or written: how many entries or bytes, or the refusal and its entry's number
 unfoldable pub packed_answer : Answer → ℕ
-packed_answer (All n) = n
-packed_answer (Unread k n) = 2 ^ 32 * k + n
+packed_answer (Ok n) = n
+packed_answer (Err (k, n)) = 2 ^ 32 * paper_number k + n
 
 -- a verdict: 0 is lawful; one more than the lowest unlawful cell; the refusal and its entry's number
 unfoldable pub packed_verdict : Verdict → ℕ

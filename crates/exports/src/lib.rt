@@ -10,8 +10,8 @@ ghost use Rattle.exports.specs.Packed.{packed_number, packed_put, packed_answer,
 ghost use Rattle.exports.specs.Unpacked.{AnswerFits, VerdictFits, RunFits};
 ghost use Rattle.layout.specs.Calls.{made_outcome, run_outcome};
 
-use number::{Number, Put};
 use record::Answer;
+use refusal::Refusal;
 use verdict::Verdict;
 
 // The number at a place, with how many bytes it takes.
@@ -19,8 +19,8 @@ pub fn adze_read_number(bytes: &[u8], at: usize) -> u64
     ensures { result ≡ packed_number at (number_at bytes.now at) }
 {
     match number::read_number(bytes, at) {
-        Number::Is(n, next) => n as u64 + 1099511627776 * ((next - at) as u64),
-        Number::Refused(k) => 4294967296 * (k as u64),
+        Ok((n, next)) => u64::from(n) + 1099511627776 * ((next - at) as u64),
+        Err(k) => 4294967296 * u64::from(k.number()),
     }
 }
 
@@ -29,8 +29,8 @@ pub fn adze_write_number(bytes: &mut [u8], at: usize, n: u32) -> u64
     ensures { (result ≡ packed_put at (put_answer bytes.old at (number_bytes n))) × (bytes.new ≡ put_bytes bytes.old at (number_bytes n)) }
 {
     match number::write_number(bytes, at, n) {
-        Put::Next(next) => 1099511627776 * ((next - at) as u64),
-        Put::NoRoom => 4294967296 * 20,
+        Some(next) => 1099511627776 * ((next - at) as u64),
+        None => 4294967296 * (Refusal::TooShort as u64),
     }
 }
 
@@ -54,8 +54,8 @@ fn packed(a: Answer) -> u64
     ensures { result ≡ packed_answer a }
 {
     match a {
-        Answer::All(n) => n as u64,
-        Answer::Refused(k, n) => 4294967296 * (k as u64) + n as u64,
+        Ok(n) => n as u64,
+        Err((k, n)) => 4294967296 * u64::from(k.number()) + n as u64,
     }
 }
 

@@ -1,6 +1,8 @@
 // The input of a program: reading it into lent bytes, how that came to its end, and what is left of it when the program has what it takes.
 #![tactic(auto)]
 
+ghost use Rattle.std.specs.Prelude.{◌≡◌, ℕ, List, take};
+ghost use Rattle.std.specs.Borrow.{Bor};
 ghost use Rattle.std.specs.Counts.{IsPrefixLen};
 
 use std::io::Read;
@@ -25,29 +27,26 @@ pub struct Reading {
 pub fn fill(input: &mut impl Read, bytes: &mut [u8]) -> Reading
     ensures { IsPrefixLen result.count bytes.new }
 {
-    let room = bytes.len();
-    let mut count: usize = 0;
-    while count < room {
+    let mut count = 0;
+    while count < bytes.len() {
         match input.read(&mut bytes[count..]) {
             Ok(0) => {
                 return Reading {
-                    count: count,
+                    count,
                     ending: Ending::Ended,
                 };
             }
-            Ok(more) => {
-                count += more;
-            }
+            Ok(more) => count += more,
             Err(_) => {
                 return Reading {
-                    count: count,
+                    count,
                     ending: Ending::Failed,
                 };
             }
         }
     }
     Reading {
-        count: count,
+        count,
         ending: Ending::Full,
     }
 }
@@ -55,17 +54,28 @@ pub fn fill(input: &mut impl Read, bytes: &mut [u8]) -> Reading
 // Reads once more, drops what came, and answers whether there may be more.
 fn drop_some(input: &mut impl Read) -> bool {
     let mut rest = [0u8; 4096];
-    match input.read(&mut rest) {
-        Ok(count) => count > 0,
-        Err(_) => false,
-    }
+    input.read(&mut rest).is_ok_and(|count| count > 0)
 }
 
 // Reads on to the end of the input, so that whoever writes it can. A proved loop has to end, and nothing says that an input
-// does. So it counts its turns down, from a number that no run uses up.
+// does: so it has more turns than any run uses up.
 pub fn drop_rest(input: &mut impl Read) {
-    let mut turns = u64::MAX;
-    while turns > 0 && drop_some(input) {
-        turns -= 1;
+    for _ in 0..u64::MAX {
+        if !drop_some(input) {
+            break;
+        }
+    }
+}
+
+// Reads the input into the lent bytes, and has what was read answered, once. What is left of an input that is longer is read on after that: it can't
+// change the answer.
+pub fn answer<F: FnOnce(&[u8], Ending)>(input: &mut impl Read, bytes: &mut [u8], say: F)
+    requires { F.IsAlwaysCallable say }
+    ensures { (n : ℕ) × (read : Bor (List ℕ)) × (ending : Ending) × IsPrefixLen n bytes.new × (read.now ≡ take n bytes.new) × F.post say read ending tt }
+{
+    let reading = fill(input, bytes);
+    say(&bytes[..reading.count], reading.ending);
+    if let Ending::Full = reading.ending {
+        drop_rest(input);
     }
 }

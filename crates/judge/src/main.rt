@@ -17,19 +17,11 @@ fn say(out: &impl Print, bytes: &[u8]) {
 // What is left of an input that is too long is read after the verdict is written: nothing of it can change the verdict.
 fn main(rt: HostRuntime) {
     let mut bytes = [0u8; DECIDES];
-    let mut stdin = rt.stdin();
-    let reading = input::fill(&mut stdin, &mut bytes);
-    let n = reading.count;
-    let ending = reading.ending;
-    match ending {
+    input::answer(&mut rt.stdin(), &mut bytes, |read, ending| match ending {
         // A part of a record is not judged: it may be lawful where the whole isn't.
         Ending::Failed => {
             let _ = rt.write_all(b"input can't be read to its end\n");
         }
-        Ending::Ended => say(&rt, &bytes[..n]),
-        Ending::Full => {
-            say(&rt, &bytes[..n]);
-            input::drop_rest(&mut stdin);
-        }
-    }
+        Ending::Ended | Ending::Full => say(&rt, read),
+    });
 }

@@ -1,5 +1,6 @@
 -- The rack of any words, as many as a rack takes. Words that are no state (a phase 3, a body 4, an operation number above 65,535, ..) give an unsound rack.
-use Rattle.std.specs.Prelude.{ℕ, ◌+◌, ◌-◌, min, List, ◌++◌, Bool, false, cond, ◌&&◌, ◌||◌, not, ltb, eqb, drop, replicate}
+use Rattle.std.specs.Prelude.{ℕ, ◌+◌, ◌-◌, min, List, ◌++◌, Bool, false, cond, ◌&&◌, ◌||◌, not, ltb, eqb, drop, replicate, None, Some, Option}
+use Rattle.method.specs.declared.Message.{Message}
 use Rattle.number.specs.Value.{signed_of}
 use Rattle.rows.specs.Row.{entry_of}
 use Rattle.record.specs.Entry.{client_limit, cell_limit}
@@ -7,18 +8,12 @@ use Rattle.record.specs.Record.{entry_limit}
 use Rattle.stamps.specs.declared.Pair.{Pair}
 use Rattle.method.specs.declared.Body.{Body}
 use Rattle.method.specs.declared.Body.TheVariants.{Ask, Tell, Keep, Kept}
-use Rattle.method.specs.declared.InSlot.{InSlot}
-use Rattle.method.specs.declared.InSlot.TheVariants.{Empty, Full}
 use Rattle.rack.specs.declared.Slot.{Slot}
 use Rattle.method.specs.declared.Goal.{Goal}
 use Rattle.method.specs.declared.Goal.TheVariants.{Read, Write}
-use Rattle.method.specs.declared.Work.{Work}
-use Rattle.method.specs.declared.Work.TheVariants.{Idle, Open}
 use Rattle.method.specs.declared.Operation.{Operation}
 use Rattle.method.specs.declared.Phase.{Phase}
 use Rattle.method.specs.declared.Phase.TheVariants.{Asking, Keeping}
-use Rattle.method.specs.declared.Holding.{Holding}
-use Rattle.method.specs.declared.Holding.TheVariants.{NoPair, Holds}
 use Rattle.method.specs.declared.Party.{Party}
 use Rattle.rack.specs.declared.Line.{Line}
 use Rattle.rack.specs.declared.Settings.{Settings}
@@ -47,8 +42,8 @@ unfoldable pub goal_of : ℕ → ℕ → Goal
 goal_of goal value = cond (eqb goal 0) Read (Write (signed_of value))
 
 -- in the ask phase nothing is held while the set is empty, and then a pair
-unfoldable pub holding_of : ℕ → Pair → Holding
-holding_of set pair = cond (eqb set 0) NoPair (Holds pair)
+unfoldable pub holding_of : ℕ → Pair → Option Pair
+holding_of set pair = cond (eqb set 0) None (Some pair)
 
 -- the phase by its number, with what is held in it
 unfoldable pub phase_of : ℕ → ℕ → Pair → Phase
@@ -65,8 +60,8 @@ operation_in ws at =
     operation_of (word ws at) (word ws (at + 1)) (goal_of (word ws (at + 2)) (word ws (at + 3))) (word ws (at + 4)) (pair_in ws (at + 5))
 
 -- what a client is at, at the place of its phase
-unfoldable pub work_in : List ℕ → ℕ → Work
-work_in ws at = cond (eqb (word ws at) 0) Idle (Open (operation_in ws at))
+unfoldable pub work_in : List ℕ → ℕ → Option Operation
+work_in ws at = cond (eqb (word ws at) 0) None (Some (operation_in ws at))
 
 -- stopped is 0 or 1, the operation number at most 65,535, the phase at most 2, and the goal of an open operation 0 or 1
 unfoldable pub party_known : ℕ → ℕ → ℕ → ℕ → Bool
@@ -78,7 +73,7 @@ stray_party =
     record {
       stopped = false;
       op = 0;
-      work = Open (record { cell = record { 0 = stray_number }; goal = Read; phase = Keeping fresh_pair; set = 0 });
+      work = Some (record { cell = record { 0 = stray_number }; goal = Read; phase = Keeping fresh_pair; set = 0 });
     }
 
 -- the client at a place; what is none is read as the stray one
@@ -99,13 +94,13 @@ unfoldable pub message_known : ℕ → ℕ → ℕ → Bool
 message_known mark body op = eqb mark 1 && (ltb body 4 && ltb op op_limit)
 
 -- a message that no rack has: its client is one that none has
-abbrev pub stray_held : InSlot
-stray_held = Full (record { client = record { 0 = stray_number }; replica = record { 0 = 0 }; cell = record { 0 = 0 }; op = 0; body = Ask })
+abbrev pub stray_held : Option Message
+stray_held = Some (record { client = record { 0 = stray_number }; replica = record { 0 = 0 }; cell = record { 0 = 0 }; op = 0; body = Ask })
 
 -- the message of a full slot at a place
-unfoldable pub full_in : List ℕ → ℕ → InSlot
+unfoldable pub full_in : List ℕ → ℕ → Option Message
 full_in ws at =
-    Full (record {
+    Some (record {
       client = record { 0 = byte_of (word ws (at + 2)) };
       replica = record { 0 = byte_of (word ws (at + 3)) };
       cell = record { 0 = byte_of (word ws (at + 4)) };
@@ -114,9 +109,9 @@ full_in ws at =
     })
 
 -- what the slot at a place holds; what is no message is read as the stray one
-unfoldable pub held_of : List ℕ → ℕ → InSlot
+unfoldable pub held_of : List ℕ → ℕ → Option Message
 held_of ws at =
-    cond (eqb (word ws at) 0) Empty (cond (message_known (word ws at) (word ws (at + 1)) (word ws (at + 5))) (full_in ws at) stray_held)
+    cond (eqb (word ws at) 0) None (cond (message_known (word ws at) (word ws (at + 1)) (word ws (at + 5))) (full_in ws at) stray_held)
 
 -- the slot at a place
 unfoldable pub slot_in : List ℕ → ℕ → Slot

@@ -1,6 +1,7 @@
 -- The words of a rack. Only clients and pairs within the sizes and entries below the count are written; the others stay as they are.
-use Rattle.std.specs.Prelude.{ℕ, zero, suc, ◌*◌, ◌%◌, List, [], ◌∷◌, ◌++◌, Bool, true, false, cond, ltb, get_or, replicate}
+use Rattle.std.specs.Prelude.{ℕ, zero, suc, ◌*◌, ◌%◌, List, [], ◌∷◌, ◌++◌, Bool, true, false, cond, ltb, get_or, replicate, None, Some, Option}
 use Rattle.std.proofs.lemmas.List.Edits.{sets}
+use Rattle.method.specs.declared.Message.{Message}
 use Rattle.number.specs.Value.{alternating_of}
 use Rattle.record.specs.Entry.{cell_limit}
 use Rattle.record.specs.declared.Cell.{Cell}
@@ -10,17 +11,11 @@ use Rattle.rows.specs.Row.{row_of}
 use Rattle.stamps.specs.declared.Pair.{Pair}
 use Rattle.method.specs.declared.Body.{Body}
 use Rattle.method.specs.declared.Body.TheVariants.{Ask, Tell, Keep, Kept}
-use Rattle.method.specs.declared.InSlot.{InSlot}
-use Rattle.method.specs.declared.InSlot.TheVariants.{Empty, Full}
 use Rattle.method.specs.declared.Goal.{Goal}
 use Rattle.method.specs.declared.Goal.TheVariants.{Read, Write}
-use Rattle.method.specs.declared.Work.{Work}
-use Rattle.method.specs.declared.Work.TheVariants.{Idle, Open}
 use Rattle.method.specs.declared.Operation.{Operation}
 use Rattle.method.specs.declared.Phase.{Phase}
 use Rattle.method.specs.declared.Phase.TheVariants.{Asking, Keeping}
-use Rattle.method.specs.declared.Holding.{Holding}
-use Rattle.method.specs.declared.Holding.TheVariants.{NoPair, Holds}
 use Rattle.method.specs.declared.Party.{Party}
 use Rattle.rack.specs.declared.Line.{Line}
 use Rattle.rack.specs.declared.Rack.{Rack}
@@ -44,9 +39,9 @@ phase_word (Asking held) = 1
 phase_word (Keeping held) = 2
 
 -- what is held in the ask phase: nothing, or a pair
-unfoldable pub holding_words : Holding → List ℕ
-holding_words NoPair = no_pair
-holding_words (Holds p) = pair_words p
+unfoldable pub holding_words : Option Pair → List ℕ
+holding_words None = no_pair
+holding_words (Some p) = pair_words p
 
 -- what is held in a phase
 unfoldable pub held_words : Phase → List ℕ
@@ -63,9 +58,9 @@ unfoldable pub operation_words : Operation → List ℕ
 operation_words o = open_words (phase_word o.phase) o.cell o.goal o.set ++ held_words o.phase
 
 -- what a client is at
-unfoldable pub work_words : Work → List ℕ
-work_words Idle = replicate work_size 0
-work_words (Open o) = operation_words o
+unfoldable pub work_words : Option Operation → List ℕ
+work_words None = replicate work_size 0
+work_words (Some o) = operation_words o
 
 -- 1 for what is so, 0 for what isn't
 unfoldable pub flag : Bool → ℕ
@@ -93,9 +88,9 @@ body_words (Keep p) = pair_words p
 body_words Kept = no_pair
 
 -- a slot, empty or full
-unfoldable pub slot_words : InSlot → List ℕ
-slot_words Empty = replicate slot_size 0
-slot_words (Full m) = (1 ∷ body_kind m.body ∷ m.client.0 ∷ m.replica.0 ∷ m.cell.0 ∷ m.op ∷ []) ++ body_words m.body
+unfoldable pub slot_words : Option Message → List ℕ
+slot_words None = replicate slot_size 0
+slot_words (Some m) = (1 ∷ body_kind m.body ∷ m.client.0 ∷ m.replica.0 ∷ m.cell.0 ∷ m.op ∷ []) ++ body_words m.body
 
 -- ---- the rack
 

@@ -1,5 +1,6 @@
 -- The lines that say what a run did and left, for people and for comparison: how many events were done, the refusal, then the rack.
-use Rattle.std.specs.Prelude.{ℕ, zero, suc, List, [], ◌++◌, Bool, true, false, cond, eqb}
+use Rattle.std.specs.Prelude.{ℕ, zero, suc, List, [], ◌++◌, Bool, true, false, cond, eqb, None, Some, Option}
+use Rattle.method.specs.declared.Operation.{Operation}
 use Rattle.text.specs.Text.{decimal, field, refused_word, line_feed, value_text, hex_text}
 use Rattle.record.specs.Record.{bytes_of}
 use Rattle.quorum.specs.Sets.{set_bits, has_replica}
@@ -7,16 +8,10 @@ use Rattle.stamps.specs.declared.Pair.{Pair}
 use Rattle.method.specs.declared.Body.{Body}
 use Rattle.method.specs.declared.Body.TheVariants.{Ask, Tell, Keep, Kept}
 use Rattle.method.specs.declared.Message.{Message}
-use Rattle.method.specs.declared.InSlot.{InSlot}
-use Rattle.method.specs.declared.InSlot.TheVariants.{Empty, Full}
 use Rattle.method.specs.declared.Goal.{Goal}
 use Rattle.method.specs.declared.Goal.TheVariants.{Read, Write}
-use Rattle.method.specs.declared.Holding.{Holding}
-use Rattle.method.specs.declared.Holding.TheVariants.{NoPair, Holds}
 use Rattle.method.specs.declared.Phase.{Phase}
 use Rattle.method.specs.declared.Phase.TheVariants.{Asking, Keeping}
-use Rattle.method.specs.declared.Work.{Work}
-use Rattle.method.specs.declared.Work.TheVariants.{Idle, Open}
 use Rattle.method.specs.declared.Party.{Party}
 use Rattle.rack.specs.declared.Settings.{Settings}
 use Rattle.rack.specs.declared.Rack.{Rack}
@@ -62,9 +57,9 @@ abbrev pub message_text : Message → List ℕ
 message_text m = kind_text m.body ++ (names_text m.client.0 m.replica.0 m.cell.0 m.op ++ body_pair m.body)
 
 -- slot i and its message; an empty slot has no line
-abbrev pub slot_line : ℕ → InSlot → List ℕ
-slot_line i Empty = []
-slot_line i (Full m) = field slot_start i ++ (message_text m ++ line_feed)
+abbrev pub slot_line : ℕ → Option Message → List ℕ
+slot_line i None = []
+slot_line i (Some m) = field slot_start i ++ (message_text m ++ line_feed)
 
 -- ---- a client's line
 
@@ -90,9 +85,9 @@ abbrev pub held_text : Pair → List ℕ
 held_text p = held_word ++ pair_text p
 
 -- in the ask phase: nothing is held while nobody has told, and then a pair
-abbrev pub holding_text : Holding → List ℕ
-holding_text NoPair = held_none
-holding_text (Holds p) = held_text p
+abbrev pub holding_text : Option Pair → List ℕ
+holding_text None = held_none
+holding_text (Some p) = held_text p
 
 -- the word for a phase: asking or keeping
 abbrev pub phase_word : Phase → List ℕ
@@ -105,9 +100,9 @@ phase_held (Asking held) = holding_text held
 phase_held (Keeping held) = held_text held
 
 -- idle, or asking or keeping with the open operation and what is held
-abbrev pub work_text : ℕ → Work → List ℕ
-work_text op Idle = field idle_words op
-work_text op (Open o) = phase_word o.phase ++ (open_text op o.cell.0 o.goal o.set ++ phase_held o.phase)
+abbrev pub work_text : ℕ → Option Operation → List ℕ
+work_text op None = field idle_words op
+work_text op (Some o) = phase_word o.phase ++ (open_text op o.cell.0 o.goal o.set ++ phase_held o.phase)
 
 -- a word for a stopped client, nothing for another
 abbrev pub stopped_text : Bool → List ℕ

@@ -1,4 +1,5 @@
 -- What a client holds after a tell, and the entries of an operation. The paper: "What each event does".
+use Rattle.std.specs.Prelude.{None, Some, Option}
 use Rattle.record.specs.declared.Client.{Client}
 use Rattle.record.specs.declared.Cell.{Cell}
 use Rattle.record.specs.declared.Entry.{Entry}
@@ -7,13 +8,11 @@ use Rattle.stamps.specs.declared.Pair.{Pair}
 use Rattle.stamps.specs.Stamp.{raised}
 use Rattle.method.specs.declared.Goal.{Goal}
 use Rattle.method.specs.declared.Goal.TheVariants.{Read, Write}
-use Rattle.method.specs.declared.Holding.{Holding}
-use Rattle.method.specs.declared.Holding.TheVariants.{NoPair, Holds}
 
 -- the first tell of a phase is held whole; a later one replaces it only with a greater stamp
-unfoldable pub holds : Holding → Pair → Pair
-holds NoPair told = told
-holds (Holds held) told = raised held told
+unfoldable pub holds : Option Pair → Pair → Pair
+holds None told = told
+holds (Some held) told = raised held told
 
 -- the entry of a start: read asked, or write asked with its value
 abbrev pub first_entry : Goal → Client → Cell → Entry

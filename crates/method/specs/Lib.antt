@@ -1,5 +1,6 @@
 -- What has to be believed: definitions.
 pub mod Holding
+pub mod Decision
 pub mod Plan
 pub mod Refusals
 pub mod About

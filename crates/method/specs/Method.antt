@@ -1,6 +1,6 @@
 -- The method: what an event that is done leaves of its client, its pair, the power, its slot and the record, and what it sends to whom; kind by kind, with
 -- what then was so before. All that holds of plans follows from this. The paper: "What each event does".
-use Rattle.std.specs.Prelude.{ℕ, ◌+◌, ◌≡◌, ◌≢◌, Bool, true, false, not, ◌&&◌, ℤ}
+use Rattle.std.specs.Prelude.{ℕ, ◌+◌, ◌≡◌, ◌≢◌, Bool, true, false, not, ◌&&◌, ℤ, None, Some, Option}
 use Rattle.record.specs.declared.Client.{Client}
 use Rattle.record.specs.declared.Replica.{Replica}
 use Rattle.record.specs.declared.Cell.{Cell}
@@ -12,16 +12,11 @@ use Rattle.method.specs.Holding.{holds, first_entry, last_entry}
 use Rattle.method.specs.declared.Body.{Body}
 use Rattle.method.specs.declared.Body.TheVariants.{Ask, Tell, Keep, Kept}
 use Rattle.method.specs.declared.Message.{Message}
-use Rattle.method.specs.declared.InSlot.{InSlot}
-use Rattle.method.specs.declared.InSlot.TheVariants.{Empty, Full}
 use Rattle.method.specs.declared.Goal.{Goal}
 use Rattle.method.specs.declared.Goal.TheVariants.{Read, Write}
-use Rattle.method.specs.declared.Holding.{Holding}
 use Rattle.method.specs.declared.Phase.{Phase}
 use Rattle.method.specs.declared.Phase.TheVariants.{Asking, Keeping}
 use Rattle.method.specs.declared.Operation.{Operation}
-use Rattle.method.specs.declared.Work.{Work}
-use Rattle.method.specs.declared.Work.TheVariants.{Idle, Open}
 use Rattle.method.specs.declared.Sight.{Sight}
 use Rattle.method.specs.declared.Event.{Event}
 use Rattle.method.specs.declared.Event.TheVariants.{StartRead, StartWrite, Deliver, Lose, Copy, Resend, Stop, Off, On, Unknown}
@@ -52,10 +47,10 @@ Chosen (Write v) client held chosen = Written client v held chosen
 -- a client that is idle asks: its operation number rises by one, the record gets an entry, an ask goes to every replica
 pub record Starts (s : Sight) (client : Client) (cell : Cell) (goal : Goal) (p : Plan) : Type 0 where
   pub acts : s.party.stopped ≡ false
-  pub before : s.party.work ≡ Idle
+  pub before : s.party.work ≡ None
   pub next : s.party.op ≢ last_op
   pub plan : p
-      ≡ planned s (active_party (s.party.op + 1) (Open (asked cell goal))) false (Asked (first_entry goal client cell))
+      ≡ planned s (active_party (s.party.op + 1) (Some (asked cell goal))) false (Asked (first_entry goal client cell))
       (to_replicas client cell (s.party.op + 1) Ask) (every_replica s.quorums.replicas)
 
 -- ---- deliver: to a replica that is on
@@ -82,8 +77,8 @@ pub record Heard (s : Sight) (m : Message) : Type 0 where
   pub acts : s.party.stopped ≡ false
   pub op : s.party.op ≡ m.op
   pub operation : Operation
-  pub before : s.party.work ≡ Open operation
-  pub held : Holding
+  pub before : s.party.work ≡ Some operation
+  pub held : Option Pair
   pub phase : operation.phase ≡ Asking held
   pub new : has_replica operation.set m.replica.0 ≡ false
 
@@ -99,7 +94,7 @@ heard_pair h = holds h.held h.told
 pub record Hears (s : Sight) (m : Message) (p : Plan) : Type 0 where
   pub heard : Heard s m
   pub few : asks_enough s.quorums (heard_set heard) ≡ false
-  pub plan : p ≡ planned s (active_party s.party.op (Open (asking heard.operation (heard_set heard) (heard_pair heard)))) true Nothing m 0
+  pub plan : p ≡ planned s (active_party s.party.op (Some (asking heard.operation (heard_set heard) (heard_pair heard)))) true Nothing m 0
 
 -- the ask phase ends with enough: the set is emptied, and a keep of the pair that is then held goes to every replica
 pub record Chooses (s : Sight) (m : Message) (p : Plan) : Type 0 where
@@ -109,7 +104,7 @@ pub record Chooses (s : Sight) (m : Message) (p : Plan) : Type 0 where
   pub choice : Chosen heard.operation.goal m.client.0 (heard_pair heard) chosen
   pub next : is_write heard.operation.goal ≡ true → (heard_pair heard).stamp.number ≢ last_number
   pub plan : p
-      ≡ planned s (active_party s.party.op (Open (keeping heard.operation 0 chosen))) true Nothing
+      ≡ planned s (active_party s.party.op (Some (keeping heard.operation 0 chosen))) true Nothing
       (to_replicas m.client heard.operation.cell s.party.op (Keep chosen)) (every_replica s.quorums.replicas)
 
 -- a kept that counts: the client isn't stopped, it is for the present operation, in the keep phase, of a replica not yet in the set
@@ -118,7 +113,7 @@ pub record Counted (s : Sight) (m : Message) : Type 0 where
   pub acts : s.party.stopped ≡ false
   pub op : s.party.op ≡ m.op
   pub operation : Operation
-  pub before : s.party.work ≡ Open operation
+  pub before : s.party.work ≡ Some operation
   pub held : Pair
   pub phase : operation.phase ≡ Keeping held
   pub new : has_replica operation.set m.replica.0 ≡ false
@@ -131,14 +126,14 @@ counted_set {s} {m} h = with_replica h.operation.set m.replica.0
 pub record Counts (s : Sight) (m : Message) (p : Plan) : Type 0 where
   pub counted : Counted s m
   pub few : keeps_enough s.quorums (counted_set counted) ≡ false
-  pub plan : p ≡ planned s (active_party s.party.op (Open (keeping counted.operation (counted_set counted) counted.held))) true Nothing m 0
+  pub plan : p ≡ planned s (active_party s.party.op (Some (keeping counted.operation (counted_set counted) counted.held))) true Nothing m 0
 
 -- the operation ends, a read as well as a write, with enough that kept: the record gets its entry, the client is idle
 pub record Ends (s : Sight) (m : Message) (p : Plan) : Type 0 where
   pub counted : Counted s m
   pub enough : keeps_enough s.quorums (counted_set counted) ≡ true
   pub plan : p
-      ≡ planned s (active_party s.party.op Idle) true (Ended (last_entry counted.operation.goal m.client counted.held)) m 0
+      ≡ planned s (active_party s.party.op None) true (Ended (last_entry counted.operation.goal m.client counted.held)) m 0
 
 -- the phase fits an answer: a tell in the ask phase, a kept in the keep phase
 abbrev pub fits_phase : Body → Phase → Bool
@@ -150,9 +145,9 @@ fits_phase Kept (Asking held) = false
 fits_phase Kept (Keeping held) = true
 
 -- an answer counts for what the client is at: the phase fits, and this replica isn't yet in the set
-abbrev pub counts_for : Work → Message → Bool
-counts_for Idle m = false
-counts_for (Open o) m = fits_phase m.body o.phase && not (has_replica o.set m.replica.0)
+abbrev pub counts_for : Option Operation → Message → Bool
+counts_for None m = false
+counts_for (Some o) m = fits_phase m.body o.phase && not (has_replica o.set m.replica.0)
 
 -- an answer counts: the client isn't stopped, and the operation number is that of its open operation
 abbrev pub counting : Sight → Message → Bool
@@ -184,7 +179,7 @@ Copies s m p = p ≡ planned s s.party false Nothing m (with_replica 0 m.replica
 pub record Resends (s : Sight) (client : Client) (p : Plan) : Type 0 where
   pub acts : s.party.stopped ≡ false
   pub operation : Operation
-  pub before : s.party.work ≡ Open operation
+  pub before : s.party.work ≡ Some operation
   pub plan : p
       ≡ planned s s.party false Nothing (to_replicas client operation.cell s.party.op (request operation.phase))
       (others s.quorums.replicas operation.set)
@@ -207,12 +202,12 @@ pub record SwitchesOn (s : Sight) (replica : Replica) (p : Plan) : Type 0 where
 -- ---- every event
 
 -- of the message that the slot holds
-abbrev pub OfSlot : (Message → Type 0) → InSlot → Type 0
-OfSlot P Empty = ⊥
-OfSlot P (Full m) = P m
+abbrev pub OfSlot : (Message → Type 0) → Option Message → Type 0
+OfSlot P None = ⊥
+OfSlot P (Some m) = P m
 
 -- what an event does that saw s and what its slot held
-abbrev pub Does : Sight → InSlot → Event → Plan → Type 0
+abbrev pub Does : Sight → Option Message → Event → Plan → Type 0
 Does s held (StartRead client cell) p = Starts s client cell Read p
 Does s held (StartWrite client cell v) p = Starts s client cell (Write v) p
 Does s held (Deliver slot) p = OfSlot (λ m. Delivers s m p) held

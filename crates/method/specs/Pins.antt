@@ -1,5 +1,5 @@
 -- What the laws of errors that look healthy speak of. The paper: "Floating pins".
-use Rattle.std.specs.Prelude.{ℕ, ◌≡◌, ◌⊎◌, false}
+use Rattle.std.specs.Prelude.{ℕ, ◌≡◌, ◌⊎◌, false, None, Some, Err, Ok, Option}
 use Rattle.quorum.specs.Sets.{with_replica}
 use Rattle.stamps.specs.declared.Pair.{Pair}
 use Rattle.stamps.specs.Stamp.{stamp_less}
@@ -8,28 +8,23 @@ use Rattle.method.specs.declared.Body.TheVariants.{Ask, Tell, Keep, Kept}
 use Rattle.method.specs.declared.Message.{Message}
 use Rattle.method.specs.declared.Goal.{Goal}
 use Rattle.method.specs.declared.Goal.TheVariants.{Read}
-use Rattle.method.specs.declared.Holding.{Holding}
-use Rattle.method.specs.declared.Holding.TheVariants.{NoPair, Holds}
 use Rattle.method.specs.declared.Phase.{Phase}
 use Rattle.method.specs.declared.Phase.TheVariants.{Asking, Keeping}
 use Rattle.method.specs.declared.Operation.{Operation}
-use Rattle.method.specs.declared.Work.{Work}
-use Rattle.method.specs.declared.Work.TheVariants.{Idle, Open}
 use Rattle.method.specs.declared.Note.TheVariants.{Nothing}
 use Rattle.method.specs.declared.Plan.{Plan}
-use Rattle.method.specs.declared.Decision.{Decision}
-use Rattle.method.specs.declared.Decision.TheVariants.{No, Go}
+use Rattle.method.specs.Decision.{Decision}
 use Rattle.method.specs.Plan.{message_of, asking, keeping}
 
 -- the event isn't refused, and its plan is such
 abbrev pub IsDone : Decision → (Plan → Type 0) → Type 0
-IsDone (No k) P = ⊥
-IsDone (Go p) P = P p
+IsDone (Err k) P = ⊥
+IsDone (Ok p) P = P p
 
 -- if the event isn't refused, its plan is such
 abbrev pub IfDone : Decision → (Plan → Type 0) → Type 0
-IfDone (No k) P = Unit {0}
-IfDone (Go p) P = P p
+IfDone (Err k) P = Unit {0}
+IfDone (Ok p) P = P p
 
 -- ---- a replica that is given a message
 
@@ -61,7 +56,7 @@ pub record OneMore (m n : Message) : Type 0 where
 -- the ask phase of o goes on: nothing is sent or recorded, and these have told
 pub record AsksOn (o : Operation) (set : ℕ) (p : Plan) : Type 0 where
   pub held : Pair
-  pub work : p.party.work ≡ Open (asking o set held)
+  pub work : p.party.work ≡ Some (asking o set held)
   pub to : p.to ≡ 0
   pub note : p.note ≡ Nothing
 
@@ -69,25 +64,25 @@ pub record AsksOn (o : Operation) (set : ℕ) (p : Plan) : Type 0 where
 pub record KeepsFirst (o : Operation) (p : Plan) : Type 0 where
   pub held : Pair
   pub kept : Pair
-  pub work : p.party.work ≡ Open (keeping o 0 held)
+  pub work : p.party.work ≡ Some (keeping o 0 held)
   pub sends : p.message.body ≡ Keep kept
   pub note : p.note ≡ Nothing
 
 -- what is held in a phase
-abbrev pub held_in : Phase → Holding
+abbrev pub held_in : Phase → Option Pair
 held_in (Asking held) = held
-held_in (Keeping held) = Holds held
+held_in (Keeping held) = Some held
 
 -- what a client holds
-abbrev pub held_by : Work → Holding
-held_by Idle = NoPair
-held_by (Open o) = held_in o.phase
+abbrev pub held_by : Option Operation → Option Pair
+held_by None = None
+held_by (Some o) = held_in o.phase
 
 -- what is held after a tell is a pair, and the greatest so far: its stamp isn't below the one just told, nor below the one held before, if any was; a read's
 -- is one of those two
-pub record Greatest (goal : Goal) (held : Holding) (told : Pair) (after : Holding) : Type 0 where
+pub record Greatest (goal : Goal) (held : Option Pair) (told : Pair) (after : Option Pair) : Type 0 where
   pub pair : Pair
-  pub holds : after ≡ Holds pair
+  pub holds : after ≡ Some pair
   pub now : stamp_less pair.stamp told.stamp ≡ false
-  pub before : (h : Pair) → held ≡ Holds h → stamp_less pair.stamp h.stamp ≡ false
-  pub whole : goal ≡ Read → (pair ≡ told) ⊎ (held ≡ Holds pair)
+  pub before : (h : Pair) → held ≡ Some h → stamp_less pair.stamp h.stamp ≡ false
+  pub whole : goal ≡ Read → (pair ≡ told) ⊎ (held ≡ Some pair)

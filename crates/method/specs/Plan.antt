@@ -1,6 +1,6 @@
 -- What each event does, from the few things that it looks at: the quorums, the power, the client, the pair and the slot. The paper: "What each event
 -- does". A plan has no refusal in it: it is what is done of an event that isn't refused (`Refusals.antt` here and in crate rack).
-use Rattle.std.specs.Prelude.{ℕ, ◌+◌, Bool, true, false, cond, not, ◌&&◌, eqb, ℤ}
+use Rattle.std.specs.Prelude.{ℕ, ◌+◌, Bool, true, false, cond, not, ◌&&◌, eqb, ℤ, None, Some, Option}
 use Rattle.record.specs.declared.Client.{Client}
 use Rattle.record.specs.declared.Replica.{Replica}
 use Rattle.record.specs.declared.Cell.{Cell}
@@ -11,16 +11,11 @@ use Rattle.method.specs.Holding.{holds, first_entry, last_entry}
 use Rattle.method.specs.declared.Body.{Body}
 use Rattle.method.specs.declared.Body.TheVariants.{Ask, Tell, Keep, Kept}
 use Rattle.method.specs.declared.Message.{Message}
-use Rattle.method.specs.declared.InSlot.{InSlot}
-use Rattle.method.specs.declared.InSlot.TheVariants.{Empty, Full}
 use Rattle.method.specs.declared.Goal.{Goal}
 use Rattle.method.specs.declared.Goal.TheVariants.{Read, Write}
-use Rattle.method.specs.declared.Holding.TheVariants.{NoPair, Holds}
 use Rattle.method.specs.declared.Phase.{Phase}
 use Rattle.method.specs.declared.Phase.TheVariants.{Asking, Keeping}
 use Rattle.method.specs.declared.Operation.{Operation}
-use Rattle.method.specs.declared.Work.{Work}
-use Rattle.method.specs.declared.Work.TheVariants.{Idle, Open}
 use Rattle.method.specs.declared.Party.{Party}
 use Rattle.method.specs.declared.Sight.{Sight}
 use Rattle.method.specs.declared.Event.{Event}
@@ -44,7 +39,7 @@ abbrev pub no_message : Message
 no_message = to_replicas (record { 0 = 0 }) (record { 0 = 0 }) 0 Ask
 
 -- a client that isn't stopped, at its operation op and this work
-abbrev pub active_party : ℕ → Work → Party
+abbrev pub active_party : ℕ → Option Operation → Party
 active_party op work = record { stopped = false; op = op; work = work }
 
 -- all stays as it was, but for a client, whether the slot becomes empty, an entry, and what is sent
@@ -82,11 +77,11 @@ powered s power =
 
 -- one that has just started has an empty set and holds nothing
 abbrev pub asked : Cell → Goal → Operation
-asked cell goal = record { cell = cell; goal = goal; phase = Asking NoPair; set = 0 }
+asked cell goal = record { cell = cell; goal = goal; phase = Asking None; set = 0 }
 
 -- in the ask phase, with this set and this pair held
 abbrev pub asking : Operation → ℕ → Pair → Operation
-asking o set held = record { cell = o.cell; goal = o.goal; phase = Asking (Holds held); set = set }
+asking o set held = record { cell = o.cell; goal = o.goal; phase = Asking (Some held); set = set }
 
 -- in the keep phase, with this set and this pair held
 abbrev pub keeping : Operation → ℕ → Pair → Operation
@@ -97,7 +92,7 @@ keeping o set held = record { cell = o.cell; goal = o.goal; phase = Keeping held
 -- the operation number rises by one, the record gets an entry, an ask goes to every replica
 unfoldable pub start_of : Sight → Client → Cell → Goal → Plan
 start_of s client cell goal =
-    planned s (active_party (s.party.op + 1) (Open (asked cell goal))) false (Asked (first_entry goal client cell))
+    planned s (active_party (s.party.op + 1) (Some (asked cell goal))) false (Asked (first_entry goal client cell))
     (to_replicas client cell (s.party.op + 1) Ask) (every_replica s.quorums.replicas)
 
 -- ---- deliver: an ask or a keep, to a replica
@@ -128,14 +123,14 @@ chosen (Write v) client held = written client v held
 -- the ask phase ends: the set is emptied and keep goes to every replica, with the pair that is then held
 unfoldable pub keeps_of : Sight → Message → Operation → Pair → Plan
 keeps_of s m o held =
-    planned s (active_party s.party.op (Open (keeping o 0 held))) true Nothing
+    planned s (active_party s.party.op (Some (keeping o 0 held))) true Nothing
     (to_replicas m.client o.cell s.party.op (Keep held)) (every_replica s.quorums.replicas)
 
 -- a tell that counts: at a majority the phase ends in that same delivery
 unfoldable pub tell_counts : Sight → Message → Operation → ℕ → Pair → Plan
 tell_counts s m o set held =
     cond (asks_enough s.quorums set) (keeps_of s m o (chosen o.goal m.client held))
-    (planned s (active_party s.party.op (Open (asking o set held))) true Nothing m 0)
+    (planned s (active_party s.party.op (Some (asking o set held))) true Nothing m 0)
 
 -- a tell counts only in the ask phase, and if this replica isn't yet in the set
 unfoldable pub tell_in : Phase → Sight → Message → Operation → Pair → Plan
@@ -144,9 +139,9 @@ tell_in (Asking held) s m o q =
 tell_in (Keeping held) s m o q = used_up s m
 
 -- a tell counts only for an open operation
-unfoldable pub tell_at : Work → Sight → Message → Pair → Plan
-tell_at Idle s m q = used_up s m
-tell_at (Open o) s m q = tell_in o.phase s m o q
+unfoldable pub tell_at : Option Operation → Sight → Message → Pair → Plan
+tell_at None s m q = used_up s m
+tell_at (Some o) s m q = tell_in o.phase s m o q
 
 -- a tell counts only if the client isn't stopped and the operation number is that of its open operation; else it is used up
 unfoldable pub tell_of : Sight → Message → Pair → Plan
@@ -156,8 +151,8 @@ tell_of s m q = cond (current s.party m) (tell_at s.party.work s m q) (used_up s
 unfoldable pub kept_counts : Sight → Message → Operation → ℕ → Pair → Plan
 kept_counts s m o set held =
     cond (keeps_enough s.quorums set)
-    (planned s (active_party s.party.op Idle) true (Ended (last_entry o.goal m.client held)) m 0)
-    (planned s (active_party s.party.op (Open (keeping o set held))) true Nothing m 0)
+    (planned s (active_party s.party.op None) true (Ended (last_entry o.goal m.client held)) m 0)
+    (planned s (active_party s.party.op (Some (keeping o set held))) true Nothing m 0)
 
 -- a kept counts only in the keep phase, and if this replica isn't yet in the set
 unfoldable pub kept_in : Phase → Sight → Message → Operation → Plan
@@ -166,9 +161,9 @@ kept_in (Keeping held) s m o =
     cond (has_replica o.set m.replica.0) (used_up s m) (kept_counts s m o (with_replica o.set m.replica.0) held)
 
 -- a kept counts only for an open operation
-unfoldable pub kept_at : Work → Sight → Message → Plan
-kept_at Idle s m = used_up s m
-kept_at (Open o) s m = kept_in o.phase s m o
+unfoldable pub kept_at : Option Operation → Sight → Message → Plan
+kept_at None s m = used_up s m
+kept_at (Some o) s m = kept_in o.phase s m o
 
 -- a kept counts only if the client isn't stopped and the operation number is that of its open operation; else it is used up
 unfoldable pub kept_of : Sight → Message → Plan
@@ -197,9 +192,9 @@ request (Asking held) = Ask
 request (Keeping held) = Keep held
 
 -- the present request goes again to each replica not in the set; where none is open, that is refused
-unfoldable pub resend_of : Work → Sight → Client → Plan
-resend_of Idle s client = unchanged s
-resend_of (Open o) s client =
+unfoldable pub resend_of : Option Operation → Sight → Client → Plan
+resend_of None s client = unchanged s
+resend_of (Some o) s client =
     planned s s.party false Nothing (to_replicas client o.cell s.party.op (request o.phase)) (others s.quorums.replicas o.set)
 
 -- it never acts again; its operation stays open
@@ -209,12 +204,12 @@ stop_of s = planned s (record { stopped = true; op = s.party.op; work = s.party.
 -- ---- every event
 
 -- what is done with the slot's message; where it is empty, that is refused
-unfoldable pub of_slot : Sight → (Message → Plan) → InSlot → Plan
-of_slot s f Empty = unchanged s
-of_slot s f (Full m) = f m
+unfoldable pub of_slot : Sight → (Message → Plan) → Option Message → Plan
+of_slot s f None = unchanged s
+of_slot s f (Some m) = f m
 
 -- an event, with what its slot holds; what is no event is refused
-unfoldable pub plan_of : Sight → InSlot → Event → Plan
+unfoldable pub plan_of : Sight → Option Message → Event → Plan
 plan_of s held (StartRead client cell) = start_of s client cell Read
 plan_of s held (StartWrite client cell v) = start_of s client cell (Write v)
 plan_of s held (Deliver slot) = of_slot s (deliver_of s) held

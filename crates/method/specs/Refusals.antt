@@ -1,26 +1,21 @@
 -- When the rack says no, as far as what an event looks at tells: for each of 3 (as far as it is of no kind), 4 to 10 and 12 when it applies. The paper:
 -- "When the rack says no"; the whole table stands in crate rack (`Refusals.antt`).
-use Rattle.std.specs.Prelude.{ℕ, Bool, true, false, cond, not, ◌&&◌, eqb}
+use Rattle.std.specs.Prelude.{ℕ, Bool, true, false, cond, not, ◌&&◌, eqb, None, Some, Ok, Option}
 use Rattle.quorum.specs.Sets.{has_replica, with_replica, asks_enough}
 use Rattle.stamps.specs.declared.Pair.{Pair}
 use Rattle.stamps.specs.Stamp.{last_number}
 use Rattle.method.specs.declared.Body.{Body}
 use Rattle.method.specs.declared.Body.TheVariants.{Ask, Tell, Keep, Kept}
 use Rattle.method.specs.declared.Message.{Message}
-use Rattle.method.specs.declared.InSlot.{InSlot}
-use Rattle.method.specs.declared.InSlot.TheVariants.{Empty, Full}
 use Rattle.method.specs.declared.Goal.{Goal}
 use Rattle.method.specs.declared.Goal.TheVariants.{Read, Write}
 use Rattle.method.specs.declared.Phase.{Phase}
 use Rattle.method.specs.declared.Phase.TheVariants.{Asking, Keeping}
 use Rattle.method.specs.declared.Operation.{Operation}
-use Rattle.method.specs.declared.Work.{Work}
-use Rattle.method.specs.declared.Work.TheVariants.{Idle, Open}
 use Rattle.method.specs.declared.Sight.{Sight}
 use Rattle.method.specs.declared.Event.{Event}
 use Rattle.method.specs.declared.Event.TheVariants.{StartRead, StartWrite, Deliver, Lose, Copy, Resend, Stop, Off, On, Unknown}
-use Rattle.method.specs.declared.Decision.{Decision}
-use Rattle.method.specs.declared.Decision.TheVariants.{No, Go}
+use Rattle.method.specs.Decision.{Decision, refused}
 use Rattle.method.specs.Holding.{holds}
 use Rattle.method.specs.Plan.{current, plan_of}
 
@@ -107,17 +102,17 @@ is_delivery Unknown = false
 -- ---- the tests
 
 -- a slot that holds no message
-abbrev pub is_empty : InSlot → Bool
-is_empty Empty = true
-is_empty (Full m) = false
+abbrev pub is_empty : Option Message → Bool
+is_empty None = true
+is_empty (Some m) = false
 
 -- a client with an open operation
-abbrev pub is_open : Work → Bool
-is_open Idle = false
-is_open (Open o) = true
+abbrev pub is_open : Option Operation → Bool
+is_open None = false
+is_open (Some o) = true
 
 -- 4: slot empty (deliver, lose, copy)
-unfoldable pub slot_empty : InSlot → Event → Bool
+unfoldable pub slot_empty : Option Message → Event → Bool
 slot_empty held e = names_slot e && is_empty held
 
 -- 5: client stopped (start, resend, stop)
@@ -140,12 +135,12 @@ to_replica (Keep q) = true
 to_replica Kept = false
 
 -- the slot's message goes to a replica that is off
-abbrev pub to_off : Sight → InSlot → Bool
-to_off s Empty = false
-to_off s (Full m) = to_replica m.body && not (has_replica s.power m.replica.0)
+abbrev pub to_off : Sight → Option Message → Bool
+to_off s None = false
+to_off s (Some m) = to_replica m.body && not (has_replica s.power m.replica.0)
 
 -- 8: delivery to a replica that is off
-unfoldable pub replica_off : Sight → InSlot → Event → Bool
+unfoldable pub replica_off : Sight → Option Message → Event → Bool
 replica_off s held e = is_delivery e && to_off s held
 
 -- 9: off when off, on when on
@@ -182,9 +177,9 @@ spent_in (Asking held) s m o q =
 spent_in (Keeping held) s m o q = false
 
 -- the same of what the client is at
-abbrev pub spent_at : Work → Sight → Message → Pair → Bool
-spent_at Idle s m q = false
-spent_at (Open o) s m q = spent_in o.phase s m o q
+abbrev pub spent_at : Option Operation → Sight → Message → Pair → Bool
+spent_at None s m q = false
+spent_at (Some o) s m q = spent_in o.phase s m o q
 
 -- the same of a message's body
 abbrev pub spent_by : Body → Sight → Message → Bool
@@ -194,26 +189,26 @@ spent_by (Keep q) s m = false
 spent_by Kept s m = false
 
 -- the same of a slot
-abbrev pub spent_slot : Sight → InSlot → Bool
-spent_slot s Empty = false
-spent_slot s (Full m) = spent_by m.body s m
+abbrev pub spent_slot : Sight → Option Message → Bool
+spent_slot s None = false
+spent_slot s (Some m) = spent_by m.body s m
 
 -- 12: a write's ask phase would end with held number 4,294,967,295
-unfoldable pub number_spent : Sight → InSlot → Event → Bool
+unfoldable pub number_spent : Sight → Option Message → Event → Bool
 number_spent s held e = is_delivery e && spent_slot s held
 
 -- ---- what is decided of an event
 
 -- the least of these numbers that applies; the plan where none does
-unfoldable pub decision_of : Sight → InSlot → Event → Decision
+unfoldable pub decision_of : Sight → Option Message → Event → Decision
 decision_of s held e =
-    cond (is_unknown e) (No 3)
-    (cond (slot_empty held e) (No 4)
-    (cond (client_stopped s e) (No 5)
-    (cond (already_open s e) (No 6)
-    (cond (none_open s e) (No 7)
-    (cond (replica_off s held e) (No 8)
-    (cond (switched_so s e) (No 9)
-    (cond (op_spent s e) (No 10)
-    (cond (number_spent s held e) (No 12)
-    (Go (plan_of s held e))))))))))
+    cond (is_unknown e) (refused 3)
+    (cond (slot_empty held e) (refused 4)
+    (cond (client_stopped s e) (refused 5)
+    (cond (already_open s e) (refused 6)
+    (cond (none_open s e) (refused 7)
+    (cond (replica_off s held e) (refused 8)
+    (cond (switched_so s e) (refused 9)
+    (cond (op_spent s e) (refused 10)
+    (cond (number_spent s held e) (refused 12)
+    (Ok (plan_of s held e))))))))))

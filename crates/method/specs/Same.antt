@@ -1,7 +1,7 @@
 -- When two decisions are one.
 use Rattle.std.specs.Prelude.{◌≡◌}
 use Rattle.method.specs.declared.Sight.{Sight}
-use Rattle.method.specs.declared.Decision.{Decision}
+use Rattle.method.specs.Decision.{Decision}
 use Rattle.method.specs.Answers.{refusal_in, party_after, pair_after, power_after, clear_in, note_in, message_in, sent_to}
 
 -- two decisions that refuse alike, leave the same of whatever was seen, send and record the same, and are one

@@ -24,13 +24,6 @@ pub struct Message {
     pub body: Body,
 }
 
-// What a slot of the wire holds.
-#[derive(Clone, Copy)]
-pub enum InSlot {
-    Empty,
-    Full(Message),
-}
-
 // What an open operation is for.
 #[derive(Clone, Copy)]
 pub enum Goal {
@@ -38,17 +31,11 @@ pub enum Goal {
     Write(i32),
 }
 
-// What is held in the ask phase: nothing until somebody has told, and from then on the greatest pair told.
-#[derive(Clone, Copy)]
-pub enum Holding {
-    NoPair,
-    Holds(Pair),
-}
-
-// The phase of an open operation, with what its client holds in it. In the keep phase that is the pair to be kept.
+// The phase of an open operation, with what its client holds in it. In the ask phase that is no pair until somebody has told, and from then on the
+// greatest pair told; in the keep phase it is the pair to be kept.
 #[derive(Clone, Copy)]
 pub enum Phase {
-    Asking(Holding),
+    Asking(Option<Pair>),
     Keeping(Pair),
 }
 
@@ -61,19 +48,12 @@ pub struct Operation {
     pub set: u16,
 }
 
-// What a client is at: nothing, or an open operation.
-#[derive(Clone, Copy)]
-pub enum Work {
-    Idle,
-    Open(Operation),
-}
-
-// A client of the rack: whether it is stopped, its operation number, and what it is at.
+// A client of the rack: whether it is stopped, its operation number, and its open operation, if any.
 #[derive(Clone, Copy)]
 pub struct Party {
     pub stopped: bool,
     pub op: u16,
-    pub work: Work,
+    pub work: Option<Operation>,
 }
 
 impl Party {
@@ -126,9 +106,5 @@ pub struct Plan {
     pub to: u16,
 }
 
-// An event is refused, or done as planned.
-#[derive(Clone, Copy)]
-pub enum Decision {
-    No(u8),
-    Go(Plan),
-}
+// An event is refused, by its number in the paper, or done as planned.
+pub type Decision = Result<Plan, u8>;

@@ -1,4 +1,5 @@
 -- What reading finds at a place of a slice, by the byte that stands there, and what writing one group more leaves.
+use Rattle.std.specs.Prelude.{Ok, Err}
 use Prim.Native.Nat.{ℕ, zero, suc, ◌+◌, ◌-◌, ◌/◌, ◌%◌, ◌^◌, ◌<◌, ◌≤◌}
 use mathlib.Core.List.{List}
 use mathlib.Core.Path.{◌≡◌, refl, ap, ◌∙◌}
@@ -12,26 +13,26 @@ use Rattle.number.specs.Number.{group_size, fifth_most, groups_of, number_bytes}
 use Rattle.number.specs.laws.Steps.{read_go, push}
 use Rattle.number.proofs.theorems.Trip.{read_below}
 use Rattle.number.specs.laws.NumberLaws.{top, groups_small, groups_more, groups_some}
-use Rattle.number.specs.declared.Number.{Number}
-use Rattle.number.specs.declared.Number.TheVariants.{Is, Refused}
+use Rattle.number.specs.Number.{Number}
+use Rattle.refusal.specs.declared.Refusal.TheVariants.{EndsFirst, FifthAbove}
 
 -- ---- reading
 
 module _ (s : List ℕ) (at : ℕ) where
-  pub at_end : (f : ℕ) → length s ≤ at → read_go f at (drop at s) ≡ Refused 21
+  pub at_end : (f : ℕ) → length s ≤ at → read_go f at (drop at s) ≡ Err EndsFirst
   unfolding read_go
   at_end zero h = simp (drop_of_length-le s h)
   at_end (suc f) h = simp (drop_of_length-le s h)
 
-  pub fifth_high : (f : ℕ) → at < length s → f ≡ 0 → fifth_most < get_or s at 0 → read_go f at (drop at s) ≡ Refused 23
+  pub fifth_high : (f : ℕ) → at < length s → f ≡ 0 → fifth_most < get_or s at 0 → read_go f at (drop at s) ≡ Err FifthAbove
   unfolding read_go
   fifth_high f h z g = simp (z, drop-cons s at 0 h, lt-ltb fifth_most (get_or s at 0) g)
 
-  pub fifth : (f : ℕ) → at < length s → f ≡ 0 → get_or s at 0 ≤ fifth_most → read_go f at (drop at s) ≡ Is (get_or s at 0) (at + 1)
+  pub fifth : (f : ℕ) → at < length s → f ≡ 0 → get_or s at 0 ≤ fifth_most → read_go f at (drop at s) ≡ Ok (get_or s at 0, at + 1)
   unfolding read_go
   fifth f h z g = simp (z, drop-cons s at 0 h, le-ltb fifth_most (get_or s at 0) g)
 
-  pub low : (f : ℕ) → at < length s → (f ≡ 0 → ⊥) → get_or s at 0 < group_size → read_go f at (drop at s) ≡ Is (get_or s at 0) (at + 1)
+  pub low : (f : ℕ) → at < length s → (f ≡ 0 → ⊥) → get_or s at 0 < group_size → read_go f at (drop at s) ≡ Ok (get_or s at 0, at + 1)
   unfolding read_go
   low zero h z g = absurd (z refl)
   low (suc f) h z g = simp (drop-cons s at 0 h, lt-ltb (get_or s at 0) group_size g)
@@ -56,7 +57,7 @@ top_at_most (suc (suc (suc zero))) h = omega arith
 top_at_most (suc (suc (suc (suc f)))) h = absurd (omega arith)
 
 -- a number of at most four bytes is below 2 ^ 25
-pub rest_below : (s : List ℕ) (f at n next : ℕ) → ((i : ℕ) → get_or s i 0 < byte_limit) → f ≤ 3 → read_go f at (drop at s) ≡ Is n next → n < 2 ^ 25
+pub rest_below : (s : List ℕ) (f at n next : ℕ) → ((i : ℕ) → get_or s i 0 < byte_limit) → f ≤ 3 → read_go f at (drop at s) ≡ Ok (n, next) → n < 2 ^ 25
 rest_below s f at n next h g e = omega (arith, read_below s f at n next h e, top_at_most f g)
 
 -- ---- how long a number is

@@ -1,10 +1,12 @@
 -- Numbers in groups of seven bits: how one is written, and what reading one gives. The paper: "The record and its bytes".
-use Rattle.std.specs.Prelude.{ℕ, zero, suc, ◌+◌, ◌*◌, ◌/◌, ◌%◌, List, [], ◌∷◌, Bool, cond, ◌&&◌, ◌≡◌, length, drop, ltb, leb, eqb}
+use Rattle.std.specs.Prelude.{ℕ, zero, suc, ◌+◌, ◌*◌, ◌/◌, ◌%◌, List, [], ◌∷◌, Bool, cond, ◌&&◌, ◌≡◌, length, drop, ltb, leb, eqb, Option, Some, None, Result, Ok, Err}
 use Rattle.std.proofs.lemmas.List.Edits.{sets}
-use Rattle.number.specs.declared.Number.{Number}
-use Rattle.number.specs.declared.Number.TheVariants.{Is, Refused}
-use Rattle.number.specs.declared.Put.{Put}
-use Rattle.number.specs.declared.Put.TheVariants.{Next, NoRoom}
+use Rattle.refusal.specs.declared.Refusal.{Refusal}
+use Rattle.refusal.specs.declared.Refusal.TheVariants.{EndsFirst, LastIsZero, FifthAbove}
+
+-- what reading a number gives: the number and the place after it, or the refusal
+abbrev pub Number : Type 0
+Number = Result (ℕ × ℕ) Refusal
 
 -- a group of seven bits says one of 128 numbers
 abbrev pub group_size : ℕ
@@ -56,33 +58,33 @@ value_of (b ∷ bs) = b % group_size + group_size * value_of bs
 -- what the bytes taken from place at on give
 unfoldable pub number_of : ℕ → List ℕ → Number
 number_of at bs =
-    cond (ends_first bs) (Refused 21)
-    (cond (last_is_zero bs) (Refused 22)
-    (cond (fifth_above bs) (Refused 23)
-    (Is (value_of bs) (at + length bs))))
+    cond (ends_first bs) (Err EndsFirst)
+    (cond (last_is_zero bs) (Err LastIsZero)
+    (cond (fifth_above bs) (Err FifthAbove)
+    (Ok (value_of bs, at + length bs))))
 
 -- what reading a number at place at of s gives
 unfoldable pub number_at : List ℕ → ℕ → Number
 number_at s at = number_of at (taken 4 (drop at s))
 
 -- a number that is refused gives what its refusal gives; else go on with it and the place after it
-unfoldable pub and_then : {A : Type 0} → (ℕ → A) → Number → (ℕ → ℕ → A) → A
-and_then refuse (Refused k) go = refuse k
-and_then refuse (Is n next) go = go n next
+unfoldable pub and_then : {A : Type 0} → (Refusal → A) → Number → (ℕ → ℕ → A) → A
+and_then refuse (Err k) go = refuse k
+and_then refuse (Ok (n, next)) go = go n next
 
 -- whether the bytes bs, a number's or an entry's, fit at place at
 abbrev pub fits_at : List ℕ → ℕ → List ℕ → Bool
 fits_at d at bs = leb (at + length bs) (length d)
 
 -- what writing them at place at of d answers
-unfoldable pub put_answer : List ℕ → ℕ → List ℕ → Put
-put_answer d at bs = cond (fits_at d at bs) (Next (at + length bs)) NoRoom
+unfoldable pub put_answer : List ℕ → ℕ → List ℕ → Option ℕ
+put_answer d at bs = cond (fits_at d at bs) (Some (at + length bs)) None
 
 -- and what then stands in d: they from place at on, the others as they were; all as it was where they don't fit
 unfoldable pub put_bytes : List ℕ → ℕ → List ℕ → List ℕ
 put_bytes d at bs = cond (fits_at d at bs) (sets d at bs) d
 
 -- what writing them at place at of d has to do: answer r, and d' stands there after
-pub record Placed (d : List ℕ) (at : ℕ) (bs : List ℕ) (r : Put) (d' : List ℕ) : Type 0 where
+pub record Placed (d : List ℕ) (at : ℕ) (bs : List ℕ) (r : Option ℕ) (d' : List ℕ) : Type 0 where
   pub answer : r ≡ put_answer d at bs
   pub bytes : d' ≡ put_bytes d at bs

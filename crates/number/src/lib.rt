@@ -4,21 +4,13 @@
 ghost use Rattle.std.specs.Prelude.{◌≡◌, ◌+◌, ◌≤◌, length, drop};
 ghost use Rattle.number.specs.Number.{number_bytes, number_at, Placed};
 ghost use Rattle.number.specs.laws.Steps.{read_go};
+ghost use Rattle.number.specs.Wrote.{Wrote};
 ghost use Rattle.number.specs.Value.{alternating_of, signed_of};
 
-// What reading one number gives: the number and the place after it, or the refusal.
-#[derive(Clone, Copy)]
-pub enum Number {
-    Is(u32, usize),
-    Refused(u8),
-}
+use refusal::Refusal;
 
-// What writing bytes at a place gives, a number's or an entry's: the place after them, or that they don't fit.
-#[derive(Clone, Copy)]
-pub enum Put {
-    Next(usize),
-    NoRoom,
-}
+// What reading one number gives: the number and the place after it, or the refusal.
+pub type Number = Result<(u32, usize), Refusal>;
 
 // How many numbers a group of seven bits says, those below which two, three and four groups are enough, and the most that a fifth byte says.
 const GROUP: u32 = 128;
@@ -40,28 +32,20 @@ fn read_groups(s: &[u8], at: usize, left: u32) -> Number
     ensures { result ≡ read_go left at (drop at s.now) }
 {
     if at >= s.len() {
-        return Number::Refused(21);
+        return Err(Refusal::EndsFirst);
     }
     let b = s[at];
-    if left == 0 {
-        if FIFTH_MOST < b {
-            return Number::Refused(23);
-        }
-        return Number::Is(b as u32, at + 1);
+    if left == 0 && FIFTH_MOST < b {
+        return Err(Refusal::FifthAbove);
     }
-    if b < MORE {
-        return Number::Is(b as u32, at + 1);
+    if left == 0 || b < MORE {
+        return Ok((u32::from(b), at + 1));
     }
-    match read_groups(s, at + 1, left - 1) {
-        Number::Refused(k) => Number::Refused(k),
-        Number::Is(m, next) => {
-            if m == 0 {
-                Number::Refused(22)
-            } else {
-                Number::Is((b % MORE) as u32 + GROUP * m, next)
-            }
-        }
+    let (m, next) = read_groups(s, at + 1, left - 1)?;
+    if m == 0 {
+        return Err(Refusal::LastIsZero);
     }
+    Ok((u32::from(b % MORE) + GROUP * m, next))
 }
 
 // Reads the number that stands at `at`.
@@ -88,10 +72,10 @@ pub fn number_length(n: u32) -> usize
     }
 }
 
-// Writes a number that fits: a group at a time, the lowest first.
-fn write_groups(buf: &mut [u8], at: usize, n: u32) -> Put
+// Writes a number that fits: a group at a time, the lowest first. What it gives is the place after it.
+fn write_groups(buf: &mut [u8], at: usize, n: u32) -> usize
     requires { at + length (number_bytes n) ≤ length buf.old }
-    ensures { Placed buf.old at (number_bytes n) result buf.new }
+    ensures { Wrote buf.old at (number_bytes n) result buf.new }
 {
     let mut i = at;
     let mut m = n;
@@ -101,21 +85,18 @@ fn write_groups(buf: &mut [u8], at: usize, n: u32) -> Put
         i += 1;
     }
     buf[i] = m as u8;
-    Put::Next(i + 1)
+    i + 1
 }
 
-// Writes a number at `at`, or nothing where it doesn't fit from there on.
-pub fn write_number(buf: &mut [u8], at: usize, n: u32) -> Put
+// Writes a number at `at`: the place after it, or nothing where it doesn't fit from there on.
+pub fn write_number(buf: &mut [u8], at: usize, n: u32) -> Option<usize>
     ensures { Placed buf.old at (number_bytes n) result buf.new }
 {
-    let room = buf.len();
-    if room < at {
-        return Put::NoRoom;
+    let room = buf.len().checked_sub(at)?;
+    if room < number_length(n) {
+        return None;
     }
-    if room - at < number_length(n) {
-        return Put::NoRoom;
-    }
-    write_groups(buf, at, n)
+    Some(write_groups(buf, at, n))
 }
 
 // The number that a value is written as. Below zero -1 - v is cast, not v: only it is in the range of both types.

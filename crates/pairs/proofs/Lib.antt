@@ -1,3 +1,2 @@
--- Laws that the proofs cite.
-mod Laws
+-- What is proved of the definitions.
 pub mod theorems

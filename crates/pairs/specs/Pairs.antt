@@ -2,8 +2,7 @@
 use Rattle.std.specs.Prelude.{ℕ, ◌+◌, ◌<◌, ◌≡◌, ◌⊎◌, List, true, false, cond, length, get_or, T}
 use Rattle.number.specs.Value.{alternating_of}
 use Rattle.record.specs.declared.Entry.{Entry}
-use Rattle.record.specs.declared.Answer.{Answer}
-use Rattle.record.specs.Record.{longest_record, entries, bytes_held, survey_of}
+use Rattle.record.specs.Record.{Answer, longest_record, entries, bytes_held, survey_of}
 use Rattle.law.specs.Operation.{Op, operations}
 use Rattle.law.specs.Order.{In}
 

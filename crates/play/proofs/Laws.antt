@@ -10,9 +10,10 @@ use borrow.Author.Tests.{eq-eqb, ne_eqb}
 use Rattle.text.specs.Text.{Printed}
 use Rattle.text.specs.laws.Printing.{same_text}
 use Rattle.record.specs.Record.{bytes_of}
-use Rattle.script.specs.declared.Words.{Words}
-use Rattle.script.specs.declared.Words.TheVariants.{Are, Refused}
-use Rattle.script.specs.Script.{script_of, events_from, words_of}
+use Rattle.std.specs.Prelude.{Ok, Err}
+use Rattle.refusal.specs.declared.Refusal.{Refusal}
+use Rattle.refusal.specs.Number.{paper_number}
+use Rattle.script.specs.Script.{Words, script_of, events_from, words_of}
 use Rattle.rack.specs.declared.Made.{Made}
 use Rattle.rack.specs.declared.Ran.{Ran}
 use Rattle.rack.specs.laws.Fresh.{made_sound}
@@ -20,8 +21,11 @@ use Rattle.rack.specs.Places.{of_sizes, record_of}
 use Rattle.rack.specs.Sound.{sound_of}
 use Rattle.rack.specs.Run.{made_of, ran_of, run_of}
 use Rattle.lines.specs.Lines.{ran_text, fault_line}
-use Rattle.play.specs.Play.{started_of, played_of, text_after, drill_text, bytes_after, record_bytes_of, answer_after, recorded_of, Records}
-use Rattle.play.specs.declared.Recorded.TheVariants.{Fault, Run}
+use Rattle.play.specs.Play.{Recorded, started_of, played_of, text_after, drill_text, bytes_after, record_bytes_of, answer_after, recorded_of, Records}
+
+-- a run without a refusal
+pub unrefused : (q : Ran) → q.refusal ≡ 0 → q ≡ ran_of q.done 0 q.rack
+unrefused q e = ap (λ (k : ℕ). ran_of q.done k q.rack) e
 
 pub sound_made : (replicas clients cells : ℕ) (m : Made) → m ≡ made_of (of_sizes replicas clients cells) → sound_of m.rack ≡ true
 sound_made replicas clients cells m e = ap (λ (x : Made). sound_of x.rack) e ∙ made_sound replicas clients cells
@@ -41,25 +45,25 @@ module _ (s : List ℕ) (replicas clients cells allowance first : ℕ) (m : Made
       none : started_of m allowance (words_of (events_from s first)) ≡ ran_of 0 m.refusal m.rack
       none = rw (ne_eqb m.refusal 0 h)
 
-pub fault_text : (s : List ℕ) (refusal byte : ℕ) → script_of s ≡ Refused refusal byte → fault_line refusal byte ≡ drill_text s
+pub fault_text : (s : List ℕ) (refusal : Refusal) (byte : ℕ) → script_of s ≡ Err (refusal, byte) → fault_line (paper_number refusal) byte ≡ drill_text s
 unfolding drill_text
 fault_text s refusal byte e = ap (text_after s) (sym e)
 
-pub run_text : (s : List ℕ) (replicas clients cells allowance first : ℕ) (q : Ran) → script_of s ≡ Are replicas clients cells allowance first
+pub run_text : (s : List ℕ) (replicas clients cells allowance first : ℕ) (q : Ran) → script_of s ≡ Ok (replicas, clients, cells, allowance, first)
     → q ≡ played_of s replicas clients cells allowance first → ran_text q ≡ drill_text s
 unfolding drill_text
 run_text s replicas clients cells allowance first q e p = ap ran_text p ∙ ap (text_after s) (sym e)
 
-pub fault_recorded : (s before : List ℕ) (refusal byte : ℕ) → script_of s ≡ Refused refusal byte → Records s before (Fault refusal byte) before
+pub fault_recorded : (s before : List ℕ) (e : Refusal × ℕ) → script_of s ≡ Err e → Records s before (Err e) before
 unfolding record_bytes_of recorded_of
-fault_recorded s before refusal byte e = record {
+fault_recorded s before fault e = record {
   answer = ap (λ (w : Words). answer_after s (min (length (record_bytes_of s)) (length before)) w) (sym e);
   lent = ap (λ (w : Words). sets before 0 (bytes_after s w)) (sym e);
 }
 
 module _ (s before : List ℕ) (replicas clients cells allowance first : ℕ) (q : Ran) where
-  pub run_recorded : (count : ℕ) (after : List ℕ) → script_of s ≡ Are replicas clients cells allowance first → q ≡ played_of s replicas clients cells allowance first
-      → Printed before 0 (bytes_of (record_of q.rack)) count after → Records s before (Run q.refusal count) after
+  pub run_recorded : (count : ℕ) (after : List ℕ) → script_of s ≡ Ok (replicas, clients, cells, allowance, first) → q ≡ played_of s replicas clients cells allowance first
+      → Printed before 0 (bytes_of (record_of q.rack)) count after → Records s before (Ok (q.refusal, count)) after
   unfolding record_bytes_of recorded_of
   run_recorded count after e p w =
       let bytes : bytes_of (record_of q.rack) ≡ record_bytes_of s = ap (λ (x : Ran). bytes_of (record_of x.rack)) p ∙ ap (bytes_after s) (sym e) in
@@ -67,7 +71,7 @@ module _ (s before : List ℕ) (replicas clients cells allowance first : ℕ) (q
       let many : count ≡ min (length (record_bytes_of s)) (length before) = omega (arith, whole.place) in
       record {
         answer =
-            ap₂ (λ (k n : ℕ). Run k n) (ap (λ (x : Ran). x.refusal) p) many
+            ap₂ {C = Recorded} (λ (k n : ℕ). Ok (k, n)) (ap (λ (x : Ran). x.refusal) p) many
             ∙ ap (λ (x : Words). answer_after s (min (length (record_bytes_of s)) (length before)) x) (sym e);
         lent = whole.list;
       }

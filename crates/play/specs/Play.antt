@@ -1,17 +1,20 @@
 -- What running a script gives, the text that the program `drill` writes for it, and the bytes that the program `recorder` writes.
-use Rattle.std.specs.Prelude.{ℕ, min, ◌≡◌, List, [], cond, eqb, length}
+use Rattle.std.specs.Prelude.{ℕ, min, ◌≡◌, List, [], cond, eqb, length, Result, Ok, Err}
 use Rattle.std.proofs.lemmas.List.Edits.{sets}
 use Rattle.record.specs.Record.{bytes_of}
-use Rattle.script.specs.declared.Words.{Words}
-use Rattle.script.specs.declared.Words.TheVariants.{Are, Refused}
-use Rattle.script.specs.Script.{events_from, words_of, script_of}
+use Rattle.refusal.specs.declared.Refusal.{Refusal}
+use Rattle.refusal.specs.Number.{paper_number}
+use Rattle.script.specs.Script.{Words, events_from, words_of, script_of}
 use Rattle.rack.specs.declared.Made.{Made}
 use Rattle.rack.specs.declared.Ran.{Ran}
 use Rattle.rack.specs.Places.{of_sizes, record_of}
 use Rattle.rack.specs.Run.{made_of, ran_of, run_of}
 use Rattle.lines.specs.Lines.{ran_text, fault_line}
-use Rattle.play.specs.declared.Recorded.{Recorded}
-use Rattle.play.specs.declared.Recorded.TheVariants.{Fault, Run}
+
+-- what is answered of a script's record: the refusal of its run, 0 for none, and how many bytes were written; or the refusal of its fault and the byte where
+-- that begins
+abbrev pub Recorded : Type 0
+Recorded = Result (ℕ × ℕ) (Refusal × ℕ)
 
 -- a refused maker: nothing is run, and its rack and refusal are given
 abbrev pub started_of : Made → ℕ → List ℕ → Ran
@@ -23,8 +26,8 @@ played_of s replicas clients cells allowance first = started_of (made_of (of_siz
 
 -- the line of the first fault, or the lines of the run of a script that has none
 abbrev pub text_after : List ℕ → Words → List ℕ
-text_after s (Refused refusal byte) = fault_line refusal byte
-text_after s (Are replicas clients cells allowance first) = ran_text (played_of s replicas clients cells allowance first)
+text_after s (Err (refusal, byte)) = fault_line (paper_number refusal) byte
+text_after s (Ok (replicas, clients, cells, allowance, first)) = ran_text (played_of s replicas clients cells allowance first)
 
 -- a fault anywhere is one line, and nothing is run; else the lines of the run
 unfoldable pub drill_text : List ℕ → List ℕ
@@ -32,8 +35,8 @@ drill_text s = text_after s (script_of s)
 
 -- no bytes for a script that has a fault; else those of the record that its run leaves, refused or not
 abbrev pub bytes_after : List ℕ → Words → List ℕ
-bytes_after s (Refused refusal byte) = []
-bytes_after s (Are replicas clients cells allowance first) = bytes_of (record_of (played_of s replicas clients cells allowance first).rack)
+bytes_after s (Err (refusal, byte)) = []
+bytes_after s (Ok (replicas, clients, cells, allowance, first)) = bytes_of (record_of (played_of s replicas clients cells allowance first).rack)
 
 -- the bytes that are written for a script
 unfoldable pub record_bytes_of : List ℕ → List ℕ
@@ -41,8 +44,8 @@ record_bytes_of s = bytes_after s (script_of s)
 
 -- the fault and its byte; or the run's refusal, 0 for none, and how many bytes were written
 abbrev pub answer_after : List ℕ → ℕ → Words → Recorded
-answer_after s count (Refused refusal byte) = Fault refusal byte
-answer_after s count (Are replicas clients cells allowance first) = Run (played_of s replicas clients cells allowance first).refusal count
+answer_after s count (Err (refusal, byte)) = Err (refusal, byte)
+answer_after s count (Ok (replicas, clients, cells, allowance, first)) = Ok ((played_of s replicas clients cells allowance first).refusal, count)
 
 -- what is answered where so many bytes are lent
 unfoldable pub recorded_of : List ℕ → ℕ → Recorded

@@ -1,7 +1,7 @@
 -- When two outcomes of a call are one.
 use Rattle.std.specs.Prelude.{◌≡◌, List, ℕ}
 use Rattle.rack.specs.declared.Ran.{Ran}
-use Rattle.play.specs.declared.Recorded.{Recorded}
+use Rattle.play.specs.Play.{Recorded}
 use Rattle.play.specs.Answers.{refusal_in, fault_in, count_in}
 
 -- the number done, the refusal and the rack are settled

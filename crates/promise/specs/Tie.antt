@@ -1,6 +1,6 @@
 -- The tie: which view of crate protocol stands for a rack, and what each message on its wire then means. An operation has the number of its start
 -- entry, as in the record.
-use Rattle.std.specs.Prelude.{ℕ, ◌≤◌, ◌≡◌, ◌≢◌, Bool, true, false, cond, List, leb, ℤ, pos, length}
+use Rattle.std.specs.Prelude.{ℕ, ◌≤◌, ◌≡◌, ◌≢◌, Bool, true, false, cond, List, leb, ℤ, pos, length, None, Some, Option}
 use Rattle.rack.specs.declared.Rack.{Rack}
 use Rattle.protocol.specs.View.{View, Setting, Pair as Seen, Op, zero_pair}
 use Rattle.record.specs.declared.Cell.{Cell}
@@ -13,14 +13,8 @@ use Rattle.stamps.specs.StampOrder.{stamp_of}
 use Rattle.method.specs.declared.Body.{Body}
 use Rattle.method.specs.declared.Body.TheVariants.{Ask, Tell, Keep, Kept}
 use Rattle.method.specs.declared.Message.{Message}
-use Rattle.method.specs.declared.InSlot.{InSlot}
-use Rattle.method.specs.declared.InSlot.TheVariants.{Empty, Full}
 use Rattle.method.specs.declared.Goal.{Goal}
 use Rattle.method.specs.declared.Goal.TheVariants.{Read, Write}
-use Rattle.method.specs.declared.Work.{Work}
-use Rattle.method.specs.declared.Work.TheVariants.{Idle, Open}
-use Rattle.method.specs.declared.Holding.{Holding as Held}
-use Rattle.method.specs.declared.Holding.TheVariants.{NoPair, Holds}
 use Rattle.method.specs.declared.Phase.{Phase}
 use Rattle.method.specs.declared.Phase.TheVariants.{Asking, Keeping}
 use Rattle.method.specs.declared.Operation.{Operation}
@@ -53,9 +47,9 @@ open_with phase o client cell goal set held =
     }
 
 -- what is held in the ask phase; the view's zero pair where nothing is
-abbrev pub held_in : Held → Seen
-held_in NoPair = zero_pair
-held_in (Holds p) = pair_of p
+abbrev pub held_in : Option Pair → Seen
+held_in None = zero_pair
+held_in (Some p) = pair_of p
 
 -- operation o of a client as the view sees what is open: its phase is 1 while it asks and 2 while it keeps
 abbrev pub open_phase : Phase → ℕ → ℕ → Operation → Op
@@ -75,9 +69,9 @@ abbrev pub Stands : (ℕ → Op) → ℕ → ℕ → Op → Type 0
 Stands ops c o x = (ops o ≡ x) × ((i : ℕ) → i ≢ o → Past ops c i)
 
 -- client c is at this work, with its operation o
-abbrev pub At : (ℕ → Op) → ℕ → ℕ → Work → Type 0
-At ops c o Idle = (i : ℕ) → Past ops c i
-At ops c o (Open x) = Stands ops c o (open_at o c x)
+abbrev pub At : (ℕ → Op) → ℕ → ℕ → Option Operation → Type 0
+At ops c o None = (i : ℕ) → Past ops c i
+At ops c o (Some x) = Stands ops c o (open_at o c x)
 
 -- what a message between the client of operation o and replica k says, about cell x
 abbrev pub Means : Setting → View → ℕ → ℕ → ℕ → Body → Type 0
@@ -92,9 +86,9 @@ abbrev pub OnWire : Setting → View → (ℕ → ℕ → ℕ) → (ℕ → ℕ)
 OnWire S v name op m = (m.op ≤ op m.client.0) × Means S v (name m.client.0 m.op) m.replica.0 m.cell.0 m.body
 
 -- what holds of a slot's message
-abbrev pub Holding : (Message → Type 0) → InSlot → Type 0
-Holding P Empty = Unit {0}
-Holding P (Full m) = P m
+abbrev pub Holding : (Message → Type 0) → Option Message → Type 0
+Holding P None = Unit {0}
+Holding P (Some m) = P m
 
 -- a client's operation number
 abbrev pub op_of : Rack → ℕ → ℕ

@@ -5,9 +5,9 @@ use mathlib.Core.Bool.{true, false}
 use native.Mathlib.Omega.{arith}
 use native.Mathlib.Nat.{one-mul}
 use lib.Bits.{bit_or}
-use lib.Dec.{ltb}
+use lib.Dec.{leb, ltb}
 use lib.Pow.{shl_exact, pow_pos, pow_mono}
-use borrow.Author.Tests.{lt-ltb}
+use borrow.Author.Tests.{lt-ltb, le-ltb, le-leb}
 use Rattle.slots.specs.laws.Bits.{trailing_lt, trailing_room}
 use Rattle.quorum.specs.Sets.{set_bits, has_replica, with_replica, every_replica, within, without_replica, lowest_of, rest_of}
 use Rattle.quorum.proofs.theorems.SetLaws.{has_beyond, has_below, with_beyond, bit_at_most}
@@ -15,8 +15,8 @@ use Rattle.quorum.proofs.theorems.SetLaws.{has_beyond, has_below, with_beyond, b
 pub one_shl : (k : ℕ) → k < set_bits → 1 * 2 ^ k % 2 ^ set_bits ≡ 2 ^ k
 one_shl k h = shl_exact {a = 1} 1 k set_bits (omega arith) (omega arith) ∙ one-mul _
 
-pub has_no_bit : (s k : ℕ) → s < 2 ^ set_bits → set_bits ≤ k → false ≡ has_replica s k
-has_no_bit s k h l = sym (has_beyond set_bits s k h l)
+pub has_no_bit : (s k : ℕ) → s < 2 ^ set_bits → set_bits ≤ k → ltb k set_bits ≡ has_replica s k
+has_no_bit s k h l = le-ltb k set_bits l ∙ sym (has_beyond set_bits s k h l)
 
 pub with_no_bit : (s k : ℕ) → set_bits ≤ k → s ≡ with_replica s k
 with_no_bit s k l = sym (with_beyond s k l)
@@ -36,9 +36,9 @@ every_fewer n l = let e : min n set_bits ≡ n = omega arith in rw (one_shl n l,
 pub shl_pos : (n : ℕ) → n < set_bits → 1 ≤ 1 * 2 ^ n % 2 ^ set_bits
 shl_pos n l = rw (one_shl n l) (pow_pos n)
 
-pub within_more : (n s : ℕ) → s < 2 ^ set_bits → set_bits ≤ n → true ≡ within n s
+pub within_more : (n s : ℕ) → s < 2 ^ set_bits → set_bits ≤ n → leb set_bits n ≡ within n s
 unfolding within
-within_more n s h l = sym (lt-ltb s (2 ^ n) (omega (arith, pow_mono l)))
+within_more n s h l = le-leb set_bits n l ∙ sym (lt-ltb s (2 ^ n) (omega (arith, pow_mono l)))
 
 pub within_fewer : (n s : ℕ) → n < set_bits → ltb s (1 * 2 ^ n % 2 ^ set_bits) ≡ within n s
 unfolding within

@@ -25,29 +25,24 @@ const FIRST: Set = 1;
 pub fn has(set: Set, k: Replica) -> bool
     ensures { result ≡ has_replica set k.0 }
 {
-    let i = k.0;
-    if SET_BITS <= i {
-        return false;
-    }
-    (set >> i) % 2 == 1
+    k.0 < SET_BITS && (set >> k.0) % 2 == 1
 }
 
 // The set with replica k.
 pub fn with(set: Set, k: Replica) -> Set
     ensures { result ≡ with_replica set k.0 }
 {
-    let i = k.0;
-    if SET_BITS <= i {
+    if SET_BITS <= k.0 {
         return set;
     }
-    set | (FIRST << i)
+    set | (FIRST << k.0)
 }
 
 // How many replicas have answered.
 pub fn count(set: Set) -> u32
     ensures { (result ≡ count_of set) × (result ≤ set_bits) }
 {
-    u16::count_ones(set)
+    set.count_ones()
 }
 
 // The set without replica k.
@@ -55,27 +50,21 @@ pub fn without(set: Set, k: Replica) -> Set
     ensures { result ≡ without_replica set k.0 }
 {
     if has(set, k) {
-        let i = k.0;
-        return set - (FIRST << i);
+        return set - (FIRST << k.0);
     }
     set
 }
 
-// A number of replicas among larger ones.
-fn wide(n: u8) -> u32
-    ensures { (result ≡ n) × (result < 256) }
-{
-    n as u32
-}
-
 // Whether the set is more than half of n replicas.
+#[tactic(auto, unfolding(crate::specs::Sets::majority))]
 fn most(n: u8, set: Set) -> bool
     ensures { result ≡ majority n set }
 {
-    wide(n) < 2 * count(set)
+    u32::from(n) < 2 * count(set)
 }
 
 // Whether enough replicas have told.
+#[tactic(auto, unfolding(crate::specs::Sets::asks_enough))]
 pub fn asks_enough(quorums: Quorums, set: Set) -> bool
     ensures { result ≡ asks_enough quorums set }
 {
@@ -83,6 +72,7 @@ pub fn asks_enough(quorums: Quorums, set: Set) -> bool
 }
 
 // Whether enough replicas have kept.
+#[tactic(auto, unfolding(crate::specs::Sets::keeps_enough))]
 pub fn keeps_enough(quorums: Quorums, set: Set) -> bool
     ensures { result ≡ keeps_enough quorums set }
 {
@@ -111,18 +101,15 @@ pub fn others(n: u8, set: Set) -> Set
 pub fn within(n: u8, set: Set) -> bool
     ensures { result ≡ within n set }
 {
-    if SET_BITS <= n {
-        return true;
-    }
-    set < (FIRST << n)
+    SET_BITS <= n || set < (FIRST << n)
 }
 
 // The lowest replica of the set.
+#[tactic(auto, unfolding(crate::specs::Sets::lowest_of, crate::specs::Sets::set_bits))]
 pub fn lowest(set: Set) -> Replica
     ensures { result ≡ record { 0 = lowest_of set } }
 {
-    let k = u16::trailing_zeros(set) as u8;
-    Replica(k)
+    Replica(set.trailing_zeros() as u8)
 }
 
 // The set without its lowest replica.
@@ -132,6 +119,5 @@ pub fn rest(set: Set) -> Set
     if set == 0 {
         return 0;
     }
-    let k = lowest(set);
-    set - (FIRST << k.0)
+    set - (FIRST << lowest(set).0)
 }

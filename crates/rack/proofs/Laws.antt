@@ -4,7 +4,8 @@ use mathlib.Core.Path.{◌≡◌, ap, ◌∙◌}
 use mathlib.Core.Bool.{true}
 use native.Mathlib.Omega.{arith}
 use mathlib.Core.List.{List}
-use lib.ListN.{get_or, length}
+use lib.ListN.{get_or, length, take}
+use Rattle.std.proofs.lemmas.List.{length-take}
 use Rattle.method.specs.declared.Party.{Party}
 use Rattle.rack.specs.Places.{of_sizes, idle}
 use Rattle.rack.specs.Sound.{settings_fit, owed_by, owed_in}
@@ -17,9 +18,9 @@ pub owed_next : (i : ℕ) (ps : List Party) → owed_in (i + 1) ps ≡ owed_in i
 unfolding owed_in
 owed_next i ps = let e : i + 1 ≡ suc i = omega arith in ap (λ (k : ℕ). owed_in k ps) e
 
-pub owed_end : (n i clients : ℕ) (ps : List Party) → n ≡ min clients 8 → length ps ≡ 8 → n ≤ i → i ≤ n → owed_in i ps ≡ owed_in clients ps
-owed_end n i clients ps e l h k =
-    let q : i ≡ min clients (length ps) = omega arith in
+pub owed_first : (n clients i : ℕ) (ps : List Party) → n ≡ min clients 8 → length ps ≡ 8 → length (take n ps) ≤ i → i ≤ length (take n ps) → owed_in i ps ≡ owed_in clients ps
+owed_first n clients i ps e l h k =
+    let q : i ≡ min clients (length ps) = omega (arith, length-take n ps) in
     ap (λ (j : ℕ). owed_in j ps) q ∙ owed_beyond clients ps
 
 -- ---- sizes

@@ -1,3 +1,4 @@
 -- What is proved of the definitions.
 pub mod Table
 pub mod Decided
+pub mod AllBelow

@@ -1,12 +1,11 @@
 -- What is counted from the events of a schedule that are done: messages sent, deliveries.
-use Rattle.std.specs.Prelude.{ℕ, zero, suc, ◌+◌, List, [], ◌∷◌}
+use Rattle.std.specs.Prelude.{ℕ, zero, suc, ◌+◌, List, [], ◌∷◌, Err, Ok}
 use Rattle.std.specs.Int.Count.{ones}
 use Rattle.rack.specs.declared.Rack.{Rack}
 use Rattle.method.specs.declared.Event.{Event}
 use Rattle.method.specs.declared.Event.TheVariants.{StartRead, StartWrite, Deliver, Lose, Copy, Resend, Stop, Off, On, Unknown}
 use Rattle.method.specs.declared.Plan.{Plan}
-use Rattle.method.specs.declared.Decision.{Decision}
-use Rattle.method.specs.declared.Decision.TheVariants.{No, Go}
+use Rattle.method.specs.Decision.{Decision}
 use Rattle.rack.specs.Run.{event_of, applied_of}
 use Rattle.rack.specs.Refusals.{decided}
 
@@ -38,8 +37,8 @@ delivered_by Unknown = 0
 
 -- what is counted of an event if it is done, and of those after it; a refusal ends the count
 unfoldable pub counted : (Event → Plan → ℕ) → Rack → Event → Decision → (Rack → ℕ) → ℕ
-counted f r e (No k) next = 0
-counted f r e (Go p) next = f e p + next (applied_of r e p)
+counted f r e (Err k) next = 0
+counted f r e (Ok p) next = f e p + next (applied_of r e p)
 
 -- a count over the events of a schedule that are done, where `left` of the allowance is left
 unfoldable pub count_over : (Event → Plan → ℕ) → ℕ → Rack → List ℕ → ℕ

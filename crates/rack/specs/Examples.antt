@@ -1,12 +1,10 @@
 -- What the wrong answers that are ruled out are said of: examples.
-use Rattle.std.specs.Prelude.{ℕ, true}
+use Rattle.std.specs.Prelude.{ℕ, true, Some, Option}
+use Rattle.method.specs.declared.Operation.{Operation}
 use Rattle.method.specs.declared.Body.TheVariants.{Ask}
 use Rattle.method.specs.declared.Message.{Message}
 use Rattle.method.specs.declared.Goal.TheVariants.{Read}
-use Rattle.method.specs.declared.Work.{Work}
-use Rattle.method.specs.declared.Work.TheVariants.{Open}
 use Rattle.method.specs.declared.Phase.TheVariants.{Asking}
-use Rattle.method.specs.declared.Holding.TheVariants.{Holds}
 use Rattle.method.specs.declared.Party.{Party}
 use Rattle.rack.specs.declared.Settings.{Settings}
 use Rattle.method.specs.Plan.{message_of}
@@ -21,8 +19,8 @@ abbrev pub asks : ℕ → Message
 asks k = message_of (record { 0 = 1 }) (record { 0 = k }) (record { 0 = 0 }) 1 Ask
 
 -- an ask phase in which these have told
-abbrev pub told : ℕ → Work
-told set = Open (record { cell = record { 0 = 0 }; goal = Read; phase = Asking (Holds (pair_of 1 0 5)); set = set })
+abbrev pub told : ℕ → Option Operation
+told set = Some (record { cell = record { 0 = 0 }; goal = Read; phase = Asking (Some (pair_of 1 0 5)); set = set })
 
 -- a client that is stopped with an operation open
 abbrev pub stopped : Party

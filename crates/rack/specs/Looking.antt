@@ -1,9 +1,8 @@
 -- What an event of a rack looks at: whether its numbers are in the rack, its slot, its client and its pair.
-use Rattle.std.specs.Prelude.{ℕ, Bool, false, ◌&&◌, ltb, get_or}
+use Rattle.std.specs.Prelude.{ℕ, Bool, false, ◌&&◌, ltb, get_or, None, Some, Option}
+use Rattle.method.specs.declared.Message.{Message}
 use Rattle.stamps.specs.declared.Pair.{Pair}
 use Rattle.stamps.specs.Stamp.{fresh_pair}
-use Rattle.method.specs.declared.InSlot.{InSlot}
-use Rattle.method.specs.declared.InSlot.TheVariants.{Empty, Full}
 use Rattle.method.specs.declared.Party.{Party}
 use Rattle.method.specs.declared.Sight.{Sight}
 use Rattle.method.specs.declared.Event.{Event}
@@ -41,12 +40,12 @@ slot_of (On replica) = 0
 slot_of Unknown = 0
 
 -- the place of the pair that a slot's message is about; 0 where it is empty
-unfoldable pub place_in : InSlot → ℕ
-place_in Empty = 0
-place_in (Full m) = pair_place m.replica.0 m.cell.0
+unfoldable pub place_in : Option Message → ℕ
+place_in None = 0
+place_in (Some m) = pair_place m.replica.0 m.cell.0
 
 -- what the slot that it names holds
-abbrev pub looked_held : Rack → Event → InSlot
+abbrev pub looked_held : Rack → Event → Option Message
 looked_held r e = held_at r (slot_of e)
 
 -- its client: the one that it names, else its message's

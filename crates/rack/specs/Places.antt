@@ -1,15 +1,12 @@
 -- Where the parts of a rack stand.
-use Rattle.std.specs.Prelude.{ℕ, ◌+◌, ◌*◌, Bool, false, List, [], ◌∷◌, map, get_or, set, take}
+use Rattle.std.specs.Prelude.{ℕ, ◌+◌, ◌*◌, Bool, false, List, [], ◌∷◌, map, get_or, set, take, None, Some, Option}
 use Rattle.record.specs.declared.Entry.{Entry}
 use Rattle.record.specs.declared.Entry.TheVariants.{Done}
 use Rattle.record.specs.Entry.{cell_limit}
 use Rattle.slots.specs.Free.{slot_count, count_free, first_free}
 use Rattle.stamps.specs.declared.Pair.{Pair}
 use Rattle.method.specs.declared.Message.{Message}
-use Rattle.method.specs.declared.InSlot.{InSlot}
-use Rattle.method.specs.declared.InSlot.TheVariants.{Empty, Full}
 use Rattle.rack.specs.declared.Slot.{Slot}
-use Rattle.method.specs.declared.Work.TheVariants.{Idle}
 use Rattle.method.specs.Refusals.{is_empty}
 use Rattle.method.specs.declared.Party.{Party}
 use Rattle.rack.specs.declared.Line.{Line}
@@ -35,15 +32,15 @@ of_sizes replicas clients cells = record { replicas = replicas; clients = client
 
 -- an empty slot
 abbrev pub empty : Slot
-empty = record { held = Empty }
+empty = record { held = None }
 
 -- a slot that holds a message
 abbrev pub full : Message → Slot
-full m = record { held = Full m }
+full m = record { held = Some m }
 
 -- a client that has done nothing yet
 abbrev pub idle : Party
-idle = record { stopped = false; op = 0; work = Idle }
+idle = record { stopped = false; op = 0; work = None }
 
 -- what stands at a place of the record that has no entry yet
 abbrev pub blank : Line
@@ -62,11 +59,11 @@ abbrev pub pair_at : Rack → ℕ → ℕ → Pair
 pair_at r k x = get_or r.pairs (pair_place k x) fresh_pair
 
 -- what slot i of a wire holds
-abbrev pub held_in : List Slot → ℕ → InSlot
+abbrev pub held_in : List Slot → ℕ → Option Message
 held_in wire i = (get_or wire i empty).held
 
 -- what slot i of the rack's wire holds
-abbrev pub held_at : Rack → ℕ → InSlot
+abbrev pub held_at : Rack → ℕ → Option Message
 held_at r i = held_in r.wire i
 
 -- which slots are free

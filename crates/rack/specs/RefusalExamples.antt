@@ -1,5 +1,5 @@
 -- The table of refusals by examples: for each number states and events that get it, and beside them what differs in that alone and doesn't.
-use Rattle.std.specs.Prelude.{ℕ, ◌-◌, ◌≡◌, Bool, true, false, List, [], ◌∷◌, ◌++◌, map, set, replicate, pos}
+use Rattle.std.specs.Prelude.{ℕ, ◌-◌, ◌≡◌, Bool, true, false, List, [], ◌∷◌, ◌++◌, map, set, replicate, pos, Some, None}
 use Rattle.record.specs.declared.Client.{Client}
 use Rattle.record.specs.declared.Replica.{Replica}
 use Rattle.record.specs.declared.Cell.{Cell}
@@ -11,9 +11,7 @@ use Rattle.method.specs.declared.Body.{Body}
 use Rattle.method.specs.declared.Body.TheVariants.{Ask, Tell, Keep, Kept}
 use Rattle.method.specs.declared.Goal.{Goal}
 use Rattle.method.specs.declared.Goal.TheVariants.{Read, Write}
-use Rattle.method.specs.declared.Holding.TheVariants.{Holds}
 use Rattle.method.specs.declared.Phase.TheVariants.{Asking}
-use Rattle.method.specs.declared.Work.TheVariants.{Idle, Open}
 use Rattle.method.specs.declared.Party.{Party}
 use Rattle.method.specs.declared.Event.{Event}
 use Rattle.method.specs.declared.Event.TheVariants.{StartRead, StartWrite, Deliver, Lose, Copy, Resend, Stop, Off, On, Unknown}
@@ -96,7 +94,7 @@ with_client party = rack_of 0b111 1 party fresh_pair fresh.wire
 
 -- it has asked to read, and is stopped or not
 abbrev reading : Bool → Party
-reading stopped = record { stopped = stopped; op = 1; work = Open (asked (cell 0) Read) }
+reading stopped = record { stopped = stopped; op = 1; work = Some (asked (cell 0) Read) }
 
 -- these replicas are on
 abbrev with_power : ℕ → Rack
@@ -110,7 +108,7 @@ entered count party = rack_of 0b111 count party fresh_pair fresh.wire
 abbrev ending : List Slot → Goal → ℕ → ℕ → Rack
 ending wire goal held told =
     rack_of 0b111 1
-    (active_party 1 (Open (record { cell = cell 0; goal = goal; phase = Asking (Holds (pair_of held 0 5)); set = 0b001 }))) fresh_pair
+    (active_party 1 (Some (record { cell = cell 0; goal = goal; phase = Asking (Some (pair_of held 0 5)); set = 0b001 }))) fresh_pair
     (set wire 0 (between 1 (Tell (pair_of told 0 5))))
 
 -- the wire has n free slots, and client 0 reads
@@ -142,9 +140,9 @@ pub record TableShown : Type 0 where
   pub not_5 : answers (with_client (reading false)) (starts 0 0 ++ (Resend (client 0) ∷ Stop (client 0) ∷ [])) ≡ 6 ∷ 6 ∷ 0 ∷ 0 ∷ []
   -- 6, start while an operation is open
   pub gets_6 : answers (with_client (reading false)) (starts 0 0) ≡ 6 ∷ 6 ∷ []
-  pub not_6 : answers (with_client (active_party 1 Idle)) (starts 0 0) ≡ 0 ∷ 0 ∷ []
+  pub not_6 : answers (with_client (active_party 1 None)) (starts 0 0) ≡ 0 ∷ 0 ∷ []
   -- 7, resend with none open
-  pub gets_7 : refusal_of (with_client (active_party 1 Idle)) (Resend (client 0)) ≡ 7
+  pub gets_7 : refusal_of (with_client (active_party 1 None)) (Resend (client 0)) ≡ 7
   pub not_7 : refusal_of (with_client (reading false)) (Resend (client 0)) ≡ 0
   -- 8, delivery to a replica that is off: an ask and a keep go there, a tell and a kept don't
   pub gets_8 : answers (with_power 0b110) (Deliver 0 ∷ Deliver 1 ∷ Deliver 2 ∷ Deliver 3 ∷ []) ≡ 8 ∷ 8 ∷ 0 ∷ 0 ∷ []
@@ -153,8 +151,8 @@ pub record TableShown : Type 0 where
   pub gets_9 : answers (with_power 0b110) (switches 0) ≡ 9 ∷ 0 ∷ []
   pub not_9 : answers (with_power 0b111) (switches 0) ≡ 0 ∷ 9 ∷ []
   -- 10, start at operation number 65,535
-  pub gets_10 : answers (with_client (active_party last_op Idle)) (starts 0 0) ≡ 10 ∷ 10 ∷ []
-  pub not_10 : answers (with_client (active_party (last_op - 1) Idle)) (starts 0 0) ≡ 0 ∷ 0 ∷ []
+  pub gets_10 : answers (with_client (active_party last_op None)) (starts 0 0) ≡ 10 ∷ 10 ∷ []
+  pub not_10 : answers (with_client (active_party (last_op - 1) None)) (starts 0 0) ≡ 0 ∷ 0 ∷ []
   -- 11, start, and entries + answers owed + 2 exceeds 2,048; a client that is stopped owes none
   pub gets_11 : answers (entered (entry_limit - 1) idle) (starts 1 0) ≡ 11 ∷ 11 ∷ []
   pub not_11 : answers (entered (entry_limit - 2) idle) (starts 1 0) ≡ 0 ∷ 0 ∷ []

@@ -1,13 +1,12 @@
 -- When the rack says no: for each number when it applies to a rack and an event, and the smallest that does. The paper: "When the rack says no".
-use Rattle.std.specs.Prelude.{ℕ, zero, suc, ◌+◌, ◌-◌, Bool, true, false, cond, not, ◌&&◌, ltb, eqb}
+use Rattle.std.specs.Prelude.{ℕ, zero, suc, ◌+◌, ◌-◌, Bool, true, false, cond, not, ◌&&◌, ltb, eqb, Err, Ok}
 use Rattle.std.specs.Int.Count.{ones}
 use Rattle.record.specs.Record.{entry_limit}
 use Rattle.method.specs.declared.Event.{Event}
 use Rattle.method.specs.declared.Note.{Note}
 use Rattle.method.specs.declared.Note.TheVariants.{Nothing, Asked, Ended}
 use Rattle.method.specs.declared.Plan.{Plan}
-use Rattle.method.specs.declared.Decision.{Decision}
-use Rattle.method.specs.declared.Decision.TheVariants.{No, Go}
+use Rattle.method.specs.Decision.{Decision, refused}
 use Rattle.method.specs.Plan.{plan_of}
 use Rattle.method.specs.Refusals.{is_start, slot_empty, client_stopped, already_open, none_open, replica_off, switched_so, op_spent, number_spent}
 use Rattle.rack.specs.declared.Rack.{Rack}
@@ -71,17 +70,17 @@ refusal_of r e = least_from (last_refusal + 1 - first_refusal) first_refusal (λ
 
 -- an event that isn't refused is done as planned
 unfoldable pub decided : Rack → Event → Decision
-decided r e = cond (eqb (refusal_of r e) 0) (Go (plan_for r e)) (No (refusal_of r e))
+decided r e = cond (eqb (refusal_of r e) 0) (Ok (plan_for r e)) (Err (refusal_of r e))
 
 -- ---- 11 and 13 by themselves, for a decision that is made so far: entries + answers owed are `taken`, and so many slots are free
 
 -- 11, of a plan that begins an operation
 unfoldable pub noted : Note → ℕ → Decision → Decision
 noted Nothing taken d = d
-noted (Asked entry) taken d = cond (ltb entry_limit (taken + 2)) (No 11) d
+noted (Asked entry) taken d = cond (ltb entry_limit (taken + 2)) (refused 11) d
 noted (Ended entry) taken d = d
 
 -- 11, then 13
 unfoldable pub checked : Decision → ℕ → ℕ → Decision
-checked (No k) taken room = No k
-checked (Go p) taken room = noted p.note taken (cond (too_many room p) (No 13) (Go p))
+checked (Err k) taken room = Err k
+checked (Ok p) taken room = noted p.note taken (cond (too_many room p) (refused 13) (Ok p))

@@ -1,5 +1,5 @@
 -- One event on a rack, and a schedule with an allowance. The paper: "What each event does", "When the rack says no".
-use Rattle.std.specs.Prelude.{ℕ, zero, suc, ◌+◌, Bool, true, false, cond, List, [], ◌∷◌, ltb, eqb, set, replicate}
+use Rattle.std.specs.Prelude.{ℕ, zero, suc, ◌+◌, Bool, true, false, cond, List, [], ◌∷◌, ltb, eqb, set, replicate, Err, Ok}
 use Rattle.number.specs.Value.{signed_of}
 use Rattle.record.specs.Entry.{client_limit}
 use Rattle.record.specs.Record.{entry_limit}
@@ -14,8 +14,7 @@ use Rattle.method.specs.declared.Event.TheVariants.{StartRead, StartWrite, Deliv
 use Rattle.method.specs.declared.Note.{Note}
 use Rattle.method.specs.declared.Note.TheVariants.{Nothing, Asked, Ended}
 use Rattle.method.specs.declared.Plan.{Plan}
-use Rattle.method.specs.declared.Decision.{Decision}
-use Rattle.method.specs.declared.Decision.TheVariants.{No, Go}
+use Rattle.method.specs.Decision.{Decision}
 use Rattle.rack.specs.declared.Made.{Made}
 use Rattle.rack.specs.declared.Ran.{Ran}
 use Rattle.stamps.specs.Stamp.{fresh_pair}
@@ -108,8 +107,8 @@ ran_of done refusal r = record { done = done; refusal = refusal; rack = r }
 
 -- a refusal stops the schedule; else it goes on with the rack after the event
 unfoldable pub turn : ℕ → Rack → Event → Decision → (Rack → Ran) → Ran
-turn done r e (No k) next = ran_of done k r
-turn done r e (Go p) next = next (applied_of r e p)
+turn done r e (Err k) next = ran_of done k r
+turn done r e (Ok p) next = next (applied_of r e p)
 
 -- events are taken in order until the allowance is used, the list ends, or one is refused; words after the last whole event are no event
 unfoldable pub run_from : ℕ → Rack → ℕ → List ℕ → Ran

@@ -1,5 +1,5 @@
 -- A sound rack. The paper: "A state is unsound exactly when", part by part.
-use Rattle.std.specs.Prelude.{ℕ, zero, suc, ◌+◌, List, get_or, Bool, true, cond, not, ◌&&◌, ltb, leb, eqb}
+use Rattle.std.specs.Prelude.{ℕ, zero, suc, ◌+◌, List, get_or, Bool, true, cond, not, ◌&&◌, ltb, leb, eqb, None, Some, Option}
 use Rattle.method.specs.declared.Party.{Party}
 use Rattle.rack.specs.Places.{idle, slot_limit, replica_limit, party_at, pair_at, held_at}
 use Rattle.record.specs.Entry.{client_limit, cell_limit}
@@ -10,22 +10,16 @@ use Rattle.stamps.specs.declared.Pair.{Pair}
 use Rattle.method.specs.declared.Body.{Body}
 use Rattle.method.specs.declared.Body.TheVariants.{Ask, Tell, Keep, Kept}
 use Rattle.method.specs.declared.Message.{Message}
-use Rattle.method.specs.declared.InSlot.{InSlot}
-use Rattle.method.specs.declared.InSlot.TheVariants.{Empty, Full}
-use Rattle.method.specs.declared.Work.{Work}
-use Rattle.method.specs.declared.Work.TheVariants.{Idle, Open}
 use Rattle.method.specs.declared.Operation.{Operation}
 use Rattle.method.specs.declared.Phase.{Phase}
 use Rattle.method.specs.declared.Phase.TheVariants.{Asking, Keeping}
-use Rattle.method.specs.declared.Holding.{Holding}
-use Rattle.method.specs.declared.Holding.TheVariants.{NoPair, Holds}
 use Rattle.rack.specs.declared.Settings.{Settings}
 use Rattle.rack.specs.declared.Rack.{Rack}
 
 -- 1 for an open operation, 0 for none
-unfoldable pub owes : Work → ℕ
-owes Idle = 0
-owes (Open o) = 1
+unfoldable pub owes : Option Operation → ℕ
+owes None = 0
+owes (Some o) = 1
 
 -- a client owes an answer for its open operation unless it is stopped
 unfoldable pub owed_by : Party → ℕ
@@ -58,18 +52,18 @@ message_fits z m =
     (ltb m.client.0 z.clients && ltb m.replica.0 z.replicas) && (ltb m.cell.0 z.cells && body_fits z m.body)
 
 -- a slot is empty, or its message names only what the rack has
-unfoldable pub held_fits : Settings → InSlot → Bool
-held_fits z Empty = true
-held_fits z (Full m) = message_fits z m
+unfoldable pub held_fits : Settings → Option Message → Bool
+held_fits z None = true
+held_fits z (Some m) = message_fits z m
 
 -- the quorums that these settings give
 abbrev pub quorums_of : Settings → Quorums
 quorums_of z = record { replicas = z.replicas }
 
 -- in the ask phase nothing is held while nobody has told, and then a pair that names a rank that the rack has
-unfoldable pub holding_fits : Settings → ℕ → Holding → Bool
-holding_fits z set NoPair = eqb set 0
-holding_fits z set (Holds p) = not (eqb set 0) && pair_fits z p
+unfoldable pub holding_fits : Settings → ℕ → Option Pair → Bool
+holding_fits z set None = eqb set 0
+holding_fits z set (Some p) = not (eqb set 0) && pair_fits z p
 
 -- what is held fits, and the set isn't enough to end the phase
 unfoldable pub phase_fits : Settings → ℕ → Phase → Bool
@@ -81,9 +75,9 @@ unfoldable pub operation_fits : Settings → Operation → Bool
 operation_fits z o = (ltb o.cell.0 z.cells && within z.replicas o.set) && phase_fits z o.set o.phase
 
 -- a client without an open operation fits
-unfoldable pub work_fits : Settings → Work → Bool
-work_fits z Idle = true
-work_fits z (Open o) = operation_fits z o
+unfoldable pub work_fits : Settings → Option Operation → Bool
+work_fits z None = true
+work_fits z (Some o) = operation_fits z o
 
 -- the answers owed by the first n of some clients
 unfoldable pub owed_in : ℕ → List Party → ℕ

@@ -5,14 +5,14 @@
 pub mod maker;
 pub mod owed;
 
-use method::{InSlot, Party};
+use method::{Message, Party};
 use record::{Client, Entry};
 use stamps::Pair;
 
 // A slot of the wire.
 #[derive(Clone, Copy)]
 pub struct Slot {
-    pub held: InSlot,
+    pub held: Option<Message>,
 }
 
 // A place of the record.

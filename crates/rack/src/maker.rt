@@ -1,13 +1,13 @@
 // The rack's own maker.
 ghost use Rattle.std.specs.Prelude.{◌≡◌};
-ghost use Rattle.rack.specs.Places.{of_sizes};
-ghost use Rattle.rack.specs.Places.{idle};
+ghost use Rattle.rack.specs.Places.{of_sizes, idle};
 ghost use Rattle.rack.specs.Run.{fresh_rack, made_of};
 ghost use Rattle.rack.specs.Sound.{settings_fit};
 
 use crate::{Line, Made, Rack, Settings, Slot};
-use method::{InSlot, Party, Work};
+use method::Party;
 use record::{Cell, Client, Entry, Replica};
+use refusal::Refusal;
 use stamps::fresh_pair;
 
 // The limits of the three sizes, as numbers of their kind.
@@ -18,25 +18,13 @@ const MOST_CLIENTS: u32 = Client::LIMIT as u32;
 const MOST_CELLS: u32 = Cell::LIMIT as u32;
 
 // 1 to 15 replicas, 1 to 8 clients and 1 to 16 cells.
+#[tactic(auto, unfolding(crate::specs::Sound::settings_fit))]
 pub fn sizes_in(replicas: u32, clients: u32, cells: u32) -> bool
     ensures { result ≡ settings_fit (of_sizes replicas clients cells) }
 {
-    if replicas < 1 {
-        return false;
-    }
-    if MOST_REPLICAS < replicas {
-        return false;
-    }
-    if clients < 1 {
-        return false;
-    }
-    if MOST_CLIENTS < clients {
-        return false;
-    }
-    if cells < 1 {
-        return false;
-    }
-    cells <= MOST_CELLS
+    (1..=MOST_REPLICAS).contains(&replicas)
+        && (1..=MOST_CLIENTS).contains(&clients)
+        && (1..=MOST_CELLS).contains(&cells)
 }
 
 // A client that has done nothing yet.
@@ -46,18 +34,7 @@ fn idle() -> Party
     Party {
         stopped: false,
         op: 0,
-        work: Work::Idle,
-    }
-}
-
-// The settings of a rack of these sizes.
-fn of_sizes(replicas: u8, clients: u8, cells: u8) -> Settings
-    ensures { result ≡ of_sizes replicas clients cells }
-{
-    Settings {
-        replicas: replicas,
-        clients: clients,
-        cells: cells,
+        work: None,
     }
 }
 
@@ -67,9 +44,7 @@ fn fresh(settings: Settings) -> Rack
 {
     let party = idle();
     let pair = fresh_pair();
-    let slot = Slot {
-        held: InSlot::Empty,
-    };
+    let slot = Slot { held: None };
     let line = Line {
         entry: Entry::Done(Client(0)),
     };
@@ -79,13 +54,13 @@ fn fresh(settings: Settings) -> Rack
     let wire = [slot; Rack::SLOTS];
     let lines = [line; Rack::ENTRIES];
     Rack {
-        settings: settings,
-        power: power,
+        settings,
+        power,
         count: 0,
-        parties: parties,
-        pairs: pairs,
-        wire: wire,
-        lines: lines,
+        parties,
+        pairs,
+        wire,
+        lines,
     }
 }
 
@@ -98,22 +73,28 @@ impl Rack {
     pub const PAIRS: usize = Replica::LIMIT * Cell::LIMIT;
 
     // The fresh rack of these sizes; where one is out of range, that is refused 1 and the fresh rack is of sizes 1, 1, 1.
+    #[tactic(auto, unfolding(crate::specs::Run::made_of))]
     pub fn made(replicas: u32, clients: u32, cells: u32) -> Made
         ensures { result ≡ made_of (of_sizes replicas clients cells) }
     {
         if sizes_in(replicas, clients, cells) {
-            let settings = of_sizes(replicas as u8, clients as u8, cells as u8);
-            let rack = fresh(settings);
-            return Made {
-                refusal: 0,
-                rack: rack,
+            let settings = Settings {
+                replicas: replicas as u8,
+                clients: clients as u8,
+                cells: cells as u8,
             };
+            let rack = fresh(settings);
+            return Made { refusal: 0, rack };
         }
-        let settings = of_sizes(1, 1, 1);
+        let settings = Settings {
+            replicas: 1,
+            clients: 1,
+            cells: 1,
+        };
         let rack = fresh(settings);
         Made {
-            refusal: 1,
-            rack: rack,
+            refusal: Refusal::SizeOutOfRange as u8,
+            rack,
         }
     }
 }

@@ -1,6 +1,6 @@
 -- When two outcomes of a call are one.
 use Rattle.std.specs.Prelude.{◌≡◌}
-use Rattle.record.specs.declared.Found.{Found}
+use Rattle.record.specs.Entry.{Found}
 use Rattle.record.specs.Same.{SameFound}
 use Rattle.reader.specs.declared.ReadingHead.{ReadingHead}
 

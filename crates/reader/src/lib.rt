@@ -10,6 +10,7 @@ ghost use Rattle.reader.specs.laws.Survey.{begun, goes_on, stopped, after_found,
 
 use number::Number;
 use record::{Answer, Cell, Client, ENTRY_LIMIT, Entry, Found, Standing};
+use refusal::Refusal;
 
 // The reading head: the record's bytes and its place in them.
 #[derive(Clone, Copy)]
@@ -19,19 +20,15 @@ pub struct ReadingHead<'a> {
 }
 
 // A number that may not be above the limit.
-fn read_up_to(s: &[u8], at: usize, limit: u32, refusal: u8) -> Number
+#[tactic(auto, unfolding(record::specs::Entry::up_to))]
+fn read_up_to(s: &[u8], at: usize, limit: u32, refusal: Refusal) -> Number
     ensures { result ≡ up_to limit refusal (number_at s.now at) }
 {
-    match number::read_number(s, at) {
-        Number::Refused(k) => Number::Refused(k),
-        Number::Is(n, next) => {
-            if limit < n {
-                Number::Refused(refusal)
-            } else {
-                Number::Is(n, next)
-            }
-        }
+    let (n, next) = number::read_number(s, at)?;
+    if limit < n {
+        return Err(refusal);
     }
+    Ok((n, next))
 }
 
 // What follows an entry's kind and client.
@@ -39,51 +36,38 @@ fn read_fields(s: &[u8], at: usize, kind: u32, client: Client) -> Found
     ensures { result ≡ fields_at s.now at kind client.0 }
 {
     if kind == 3 {
-        return Found::At(Entry::Done(client), at);
+        return Ok((Entry::Done(client), at));
     }
     if kind == 2 {
-        return match number::read_number(s, at) {
-            Number::Refused(k) => Found::Fault(k),
-            Number::Is(v, next) => Found::At(Entry::Told(client, number::signed(v)), next),
-        };
+        let (v, next) = number::read_number(s, at)?;
+        return Ok((Entry::Told(client, number::signed(v)), next));
     }
-    match read_up_to(s, at, Cell::LAST, 25) {
-        Number::Refused(k) => Found::Fault(k),
-        Number::Is(cell, next) => {
-            if kind == 0 {
-                return Found::At(Entry::ReadAsked(client, Cell(cell as u8)), next);
-            }
-            match number::read_number(s, next) {
-                Number::Refused(k) => Found::Fault(k),
-                Number::Is(v, last) => Found::At(
-                    Entry::WriteAsked(client, Cell(cell as u8), number::signed(v)),
-                    last,
-                ),
-            }
-        }
+    let (cell, next) = read_up_to(s, at, Cell::LAST, Refusal::FieldAbove)?;
+    let cell = Cell(cell as u8);
+    if kind == 0 {
+        return Ok((Entry::ReadAsked(client, cell), next));
     }
+    let (v, last) = number::read_number(s, next)?;
+    Ok((Entry::WriteAsked(client, cell, number::signed(v)), last))
 }
 
 // The entry at a place of the bytes.
 fn read_entry(s: &[u8], at: usize) -> Found
     ensures { result ≡ entry_at s.now at }
 {
-    match read_up_to(s, at, 3, 24) {
-        Number::Refused(k) => Found::Fault(k),
-        Number::Is(kind, next) => match read_up_to(s, next, Client::LAST, 25) {
-            Number::Refused(k) => Found::Fault(k),
-            Number::Is(client, more) => read_fields(s, more, kind, Client(client as u8)),
-        },
-    }
+    let (kind, next) = read_up_to(s, at, 3, Refusal::KindAbove)?;
+    let (client, more) = read_up_to(s, next, Client::LAST, Refusal::FieldAbove)?;
+    read_fields(s, more, kind, Client(client as u8))
 }
 
 // The place after what was found; a fault leaves the place as it is.
+#[tactic(auto, unfolding(crate::specs::Head::place_after))]
 fn place_after(found: Found, place: usize) -> usize
     ensures { result ≡ place_after found place }
 {
     match found {
-        Found::At(_, next) => next,
-        Found::Fault(_) => place,
+        Ok((_, next)) => next,
+        Err(_) => place,
     }
 }
 
@@ -110,12 +94,12 @@ pub fn entry_at(s: &[u8], at: usize) -> Found
     head.take()
 }
 
-// How far a survey has come: what each client has open, how many entries were taken, and what stopped it (0: nothing).
+// How far a survey has come: what each client has open, how many entries were taken, and what stopped it, if anything did.
 #[derive(Clone, Copy)]
 struct Progress {
     standing: Standing,
     taken: usize,
-    fault: u8,
+    fault: Option<Refusal>,
 }
 
 // Before the first entry.
@@ -125,26 +109,25 @@ fn begun() -> Progress
     Progress {
         standing: Standing::fresh(),
         taken: 0,
-        fault: 0,
+        fault: None,
     }
 }
 
 // Whether an entry is due, at a place of so many bytes.
+#[tactic(auto, unfolding(crate::specs::laws::Survey::goes_on))]
 fn goes_on(progress: Progress, place: usize, length: usize) -> bool
     ensures { result ≡ goes_on progress place length }
 {
-    progress.fault == 0 && place < length
+    progress.fault.is_none() && place < length
 }
 
 // Stopped where the next entry is due.
-fn stopped(progress: Progress, fault: u8) -> Progress
+fn stopped(progress: Progress, fault: Refusal) -> Progress
     ensures { result ≡ stopped progress fault }
 {
-    let standing = progress.standing;
     Progress {
-        standing,
-        taken: progress.taken,
-        fault,
+        fault: Some(fault),
+        ..progress
     }
 }
 
@@ -152,35 +135,31 @@ fn stopped(progress: Progress, fault: u8) -> Progress
 fn after(progress: Progress, found: Found) -> Progress
     ensures { result ≡ after_found progress found }
 {
-    let standing = progress.standing;
-    let n = progress.taken;
-    if ENTRY_LIMIT <= n {
-        return stopped(progress, 28);
+    if ENTRY_LIMIT <= progress.taken {
+        return stopped(progress, Refusal::TooMany);
     }
     match found {
-        Found::Fault(k) => stopped(progress, k),
-        Found::At(e, _) => {
-            let fault = standing.fault(e);
-            if fault != 0 {
-                return stopped(progress, fault);
-            }
-            Progress {
-                standing: standing.after(e),
-                taken: n + 1,
-                fault: 0,
-            }
-        }
+        Err(fault) => stopped(progress, fault),
+        Ok((e, _)) => match progress.standing.fault(e) {
+            Some(fault) => stopped(progress, fault),
+            None => Progress {
+                standing: progress.standing.after(e),
+                taken: progress.taken + 1,
+                fault: None,
+            },
+        },
     }
 }
 
 // How many entries were taken, or what stopped the survey.
+#[tactic(auto, unfolding(crate::specs::laws::Survey::all_or))]
 fn answer_of(progress: Progress) -> Answer
     ensures { result ≡ answer_of progress }
 {
-    if progress.fault != 0 {
-        return Answer::Refused(progress.fault, progress.taken);
+    match progress.fault {
+        None => Ok(progress.taken),
+        Some(fault) => Err((fault, progress.taken)),
     }
-    Answer::All(progress.taken)
 }
 
 // How many entries the bytes hold, or the first fault. One head takes them all.

@@ -1,13 +1,15 @@
 -- An entry: its kind and then its fields, each a number. The paper: "The record and its bytes".
-use Rattle.std.specs.Prelude.{ℕ, ◌-◌, List, ◌++◌, cond, ltb, eqb}
-use Rattle.number.specs.Number.{number_bytes, number_at, and_then}
+use Rattle.std.specs.Prelude.{ℕ, ◌-◌, List, ◌++◌, cond, ltb, eqb, Result, Ok, Err}
+use Rattle.number.specs.Number.{Number, number_bytes, number_at, and_then}
 use Rattle.number.specs.Value.{alternating_of, signed_of}
-use Rattle.number.specs.declared.Number.{Number}
-use Rattle.number.specs.declared.Number.TheVariants.{Is, Refused}
 use Rattle.record.specs.declared.Entry.{Entry}
 use Rattle.record.specs.declared.Entry.TheVariants.{ReadAsked, WriteAsked, Told, Done}
-use Rattle.record.specs.declared.Found.{Found}
-use Rattle.record.specs.declared.Found.TheVariants.{At, Fault}
+use Rattle.refusal.specs.declared.Refusal.{Refusal}
+use Rattle.refusal.specs.declared.Refusal.TheVariants.{KindAbove, FieldAbove}
+
+-- what reading an entry gives: the entry and the place after it, or the refusal
+abbrev pub Found : Type 0
+Found = Result (Entry × ℕ) Refusal
 
 -- a rack has at most 8 clients, numbered from 0
 abbrev pub client_limit : ℕ
@@ -37,22 +39,22 @@ entry_bytes (Told client v) = number_bytes 2 ++ (number_bytes client.0 ++ number
 entry_bytes (Done client) = number_bytes 3 ++ number_bytes client.0
 
 -- as soon as a number is read: the refusal, if it is above the limit
-unfoldable pub up_to : ℕ → ℕ → Number → Number
-up_to limit refusal (Refused k) = Refused k
-up_to limit refusal (Is n next) = cond (ltb limit n) (Refused refusal) (Is n next)
+unfoldable pub up_to : ℕ → Refusal → Number → Number
+up_to limit refusal (Err k) = Err k
+up_to limit refusal (Ok (n, next)) = cond (ltb limit n) (Err refusal) (Ok (n, next))
 
 -- the fields after kind and client; 25: cell above the last
 unfoldable pub fields_at : List ℕ → ℕ → ℕ → ℕ → Found
 fields_at s at kind client =
-    cond (eqb kind 3) (At (Done (record { 0 = client })) at)
-    (cond (eqb kind 2) (and_then Fault (number_at s at) (λ v next. At (Told (record { 0 = client }) (signed_of v)) next))
-    (and_then Fault (up_to last_cell 25 (number_at s at)) (λ cell next.
-    cond (eqb kind 0) (At (ReadAsked (record { 0 = client }) (record { 0 = cell })) next)
-    (and_then Fault (number_at s next) (λ v last. At (WriteAsked (record { 0 = client }) (record { 0 = cell }) (signed_of v)) last)))))
+    cond (eqb kind 3) (Ok (Done (record { 0 = client }), at))
+    (cond (eqb kind 2) (and_then Err (number_at s at) (λ v next. Ok (Told (record { 0 = client }) (signed_of v), next)))
+    (and_then Err (up_to last_cell FieldAbove (number_at s at)) (λ cell next.
+    cond (eqb kind 0) (Ok (ReadAsked (record { 0 = client }) (record { 0 = cell }), next))
+    (and_then Err (number_at s next) (λ v last. Ok (WriteAsked (record { 0 = client }) (record { 0 = cell }) (signed_of v), last))))))
 
 -- what reading an entry at place at of s gives; 24: kind above 3; 25: client above the last
 unfoldable pub entry_at : List ℕ → ℕ → Found
 entry_at s at =
-    and_then Fault (up_to 3 24 (number_at s at)) (λ kind next.
-    and_then Fault (up_to last_client 25 (number_at s next)) (λ client more.
+    and_then Err (up_to 3 KindAbove (number_at s at)) (λ kind next.
+    and_then Err (up_to last_client FieldAbove (number_at s next)) (λ client more.
     fields_at s more kind client))

@@ -1,6 +1,6 @@
 -- A record that has no fault: its entries are in range, and each may follow those before it. Reading gives such records only, and the
 -- writer takes them all (specs/Trip.antt here and in crate rows).
-use Rattle.std.specs.Prelude.{◌≤◌, ◌≡◌, List, [], ◌∷◌, length}
+use Rattle.std.specs.Prelude.{◌≤◌, ◌≡◌, List, [], ◌∷◌, length, None}
 use Rattle.std.specs.Int.{w32}
 use Rattle.std.proofs.Common.{SFits}
 use Rattle.record.specs.declared.Entry.{Entry}
@@ -19,7 +19,7 @@ InRange (Done client) = client.0 ≤ last_client
 -- each entry is in range and is no 26 or 27 after those before it
 abbrev pub Follows : Standing → List Entry → Type 0
 Follows st [] = Unit {0}
-Follows st (e ∷ es) = InRange e × (fault_after st e ≡ 0) × Follows (standing_after st e) es
+Follows st (e ∷ es) = InRange e × (fault_after st e ≡ None) × Follows (standing_after st e) es
 
 -- a whole record without a fault
 pub record Legal (es : List Entry) : Type 0 where

@@ -1,7 +1,7 @@
 -- When two outcomes of a call are one.
 use Rattle.std.specs.Prelude.{◌≡◌}
-use Rattle.record.specs.declared.Found.{Found}
-use Rattle.record.specs.declared.Answer.{Answer}
+use Rattle.record.specs.Entry.{Found}
+use Rattle.record.specs.Record.{Answer}
 use Rattle.record.specs.Answers.{found_refusal, found_next, found_bytes, refusal_in, entry_in, count_in}
 
 -- two answers that refuse alike, hand out the same entry and the same place, and are one answer

@@ -1,8 +1,10 @@
 // A rack's record: its entries, and what each client has open after them.
 #![tactic(auto)]
 
-ghost use Rattle.std.specs.Prelude.{◌≡◌, get_or, set, eqb, cond};
-ghost use Rattle.record.specs.Record.{fresh, fault_after, standing_after};
+ghost use Rattle.std.specs.Prelude.{◌≡◌, eqb, cond, None, Some};
+ghost use Rattle.record.specs.Record.{fresh, open_by, opened, fault_after, standing_after};
+
+use refusal::Refusal;
 
 // A client's number, a replica's and a cell's: kinds of their own.
 #[derive(Clone, Copy)]
@@ -43,11 +45,7 @@ pub enum Entry {
 }
 
 // What reading one entry gives: the entry and the place after it, or the refusal.
-#[derive(Clone, Copy)]
-pub enum Found {
-    At(Entry, usize),
-    Fault(u8),
-}
+pub type Found = Result<(Entry, usize), Refusal>;
 
 // What each client has open: nothing is 0, a read 1, a write 2.
 #[derive(Clone, Copy)]
@@ -56,11 +54,7 @@ pub struct Standing {
 }
 
 // What reading or writing a record gives: how many entries or bytes, or the refusal with its entry's number.
-#[derive(Clone, Copy)]
-pub enum Answer {
-    All(usize),
-    Refused(u8, usize),
-}
+pub type Answer = Result<usize, (Refusal, usize)>;
 
 // The most entries that a record holds.
 pub const ENTRY_LIMIT: usize = 2048;
@@ -69,41 +63,6 @@ pub const ENTRY_LIMIT: usize = 2048;
 pub const LONGEST_ENTRY: usize = 8;
 
 pub const LONGEST_RECORD: usize = LONGEST_ENTRY * ENTRY_LIMIT;
-
-// What a client has open. The array is a parameter, so that its length is known.
-fn open_by(has: [u8; Client::LIMIT], client: Client) -> u8
-    ensures { result ≡ get_or has client.0 0 }
-{
-    let at = client.0 as usize;
-    if Client::LIMIT <= at {
-        return 0;
-    }
-    has[at]
-}
-
-// The same with another thing open; a client that isn't there changes nothing.
-fn opened(has: [u8; Client::LIMIT], client: Client, what: u8) -> [u8; Client::LIMIT]
-    ensures { result ≡ set has client.0 what }
-{
-    let at = client.0 as usize;
-    if Client::LIMIT <= at {
-        return has;
-    }
-    let mut next = has;
-    next[at] = what;
-    next
-}
-
-// 0, or the refusal of a client that must have just this open.
-fn unless_open(has: [u8; Client::LIMIT], client: Client, what: u8, refusal: u8) -> u8
-    ensures { result ≡ cond (eqb (get_or has client.0 0) what) 0 refusal }
-{
-    if open_by(has, client) == what {
-        0
-    } else {
-        refusal
-    }
-}
 
 impl Standing {
     // Before the first entry.
@@ -115,37 +74,57 @@ impl Standing {
         }
     }
 
-    // 26 or 27 if the entry may not come now, else 0.
-    pub fn fault(self, e: Entry) -> u8
+    // What a client has open; one that isn't there has nothing.
+    fn open_by(self, client: Client) -> u8
+        ensures { result ≡ open_by self client }
+    {
+        self.has.get(usize::from(client.0)).copied().unwrap_or(0)
+    }
+
+    // The same with another thing open; a client that isn't there changes nothing.
+    fn opened(mut self, client: Client, what: u8) -> Standing
+        ensures { result ≡ opened self client what }
+    {
+        let at = usize::from(client.0);
+        if at < Client::LIMIT {
+            self.has[at] = what;
+        }
+        self
+    }
+
+    // The refusal of a client that must have just this open.
+    fn unless_open(self, client: Client, what: u8, refusal: Refusal) -> Option<Refusal>
+        ensures { result ≡ cond (eqb (open_by self client) what) None (Some refusal) }
+    {
+        if self.open_by(client) == what {
+            None
+        } else {
+            Some(refusal)
+        }
+    }
+
+    // Why the entry may not come now, if so.
+    #[tactic(auto, unfolding(crate::specs::Record::fault_after))]
+    pub fn fault(self, e: Entry) -> Option<Refusal>
         ensures { result ≡ fault_after self e }
     {
-        let has = self.has;
         match e {
-            Entry::ReadAsked(client, _) => unless_open(has, client, 0, 26),
-            Entry::WriteAsked(client, _, _) => unless_open(has, client, 0, 26),
-            Entry::Told(client, _) => unless_open(has, client, 1, 27),
-            Entry::Done(client) => unless_open(has, client, 2, 27),
+            Entry::ReadAsked(client, _) => self.unless_open(client, 0, Refusal::AskedWhileOpen),
+            Entry::WriteAsked(client, _, _) => self.unless_open(client, 0, Refusal::AskedWhileOpen),
+            Entry::Told(client, _) => self.unless_open(client, 1, Refusal::EndedUnasked),
+            Entry::Done(client) => self.unless_open(client, 2, Refusal::EndedUnasked),
         }
     }
 
     // After the entry.
+    #[tactic(auto, unfolding(crate::specs::Record::standing_after))]
     pub fn after(self, e: Entry) -> Standing
         ensures { result ≡ standing_after self e }
     {
-        let has = self.has;
         match e {
-            Entry::ReadAsked(client, _) => Standing {
-                has: opened(has, client, 1),
-            },
-            Entry::WriteAsked(client, _, _) => Standing {
-                has: opened(has, client, 2),
-            },
-            Entry::Told(client, _) => Standing {
-                has: opened(has, client, 0),
-            },
-            Entry::Done(client) => Standing {
-                has: opened(has, client, 0),
-            },
+            Entry::ReadAsked(client, _) => self.opened(client, 1),
+            Entry::WriteAsked(client, _, _) => self.opened(client, 2),
+            Entry::Told(client, _) | Entry::Done(client) => self.opened(client, 0),
         }
     }
 }

@@ -3,7 +3,6 @@
 #![tactic(auto)]
 
 use input::Ending;
-use play::Recorded;
 
 // The longest script that is taken has one byte less.
 const TOO_LONG: usize = play::LONGEST + 1;
@@ -36,30 +35,22 @@ fn say_run(rt: HostRuntime, refusal: u8, record: &[u8]) {
 fn say(rt: HostRuntime, script: &[u8]) {
     let mut record = [0u8; 16384];
     match play::record_run(script, &mut record) {
-        Recorded::Fault(refusal, byte) => say_fault(&rt.stderr(), refusal, byte),
-        Recorded::Run(refusal, count) => say_run(rt, refusal, &record[..count]),
+        Err((refusal, byte)) => say_fault(&rt.stderr(), refusal.number(), byte),
+        Ok((refusal, count)) => say_run(rt, refusal, &record[..count]),
     }
 }
 
-// Reads a script into the lent bytes. One that fills them is too long; a part of one is not run.
-fn answer(rt: HostRuntime, bytes: &mut [u8]) {
+// A script that fills the bytes is too long; a part of one is not run.
+fn main(rt: HostRuntime) {
+    let mut bytes = [0u8; TOO_LONG];
     let mut stdin = rt.stdin();
-    let reading = input::fill(&mut stdin, bytes);
-    let n = reading.count;
-    let ending = reading.ending;
-    match ending {
+    input::answer(&mut stdin, &mut bytes, |script, ending| match ending {
         Ending::Failed => {
             let _ = rt.stderr().write_all(b"input can't be read to its end\n");
         }
-        Ending::Ended => say(rt, &bytes[..n]),
+        Ending::Ended => say(rt, script),
         Ending::Full => {
             let _ = rt.stderr().write_all(b"script longer than 2097152 bytes\n");
-            input::drop_rest(&mut stdin);
         }
-    }
-}
-
-fn main(rt: HostRuntime) {
-    let mut bytes = [0u8; TOO_LONG];
-    answer(rt, &mut bytes);
+    });
 }

@@ -1,12 +1,11 @@
 -- An entry in memory: a row of four numbers. The paper: "The record and its bytes".
-use Rattle.std.specs.Prelude.{ℕ, ◌+◌, List, [], ◌∷◌, Bool, cond, ◌||◌, ◌&&◌, get_or, length, ltb, leb, eqb}
+use Rattle.std.specs.Prelude.{ℕ, ◌+◌, List, [], ◌∷◌, Bool, cond, ◌||◌, ◌&&◌, get_or, length, ltb, leb, eqb, Ok, Err}
 use Rattle.std.proofs.lemmas.List.Edits.{sets}
 use Rattle.number.specs.Value.{alternating_of, signed_of}
 use Rattle.record.specs.declared.Entry.{Entry}
 use Rattle.record.specs.declared.Entry.TheVariants.{ReadAsked, WriteAsked, Told, Done}
-use Rattle.record.specs.declared.Found.{Found}
-use Rattle.record.specs.declared.Found.TheVariants.{At, Fault}
-use Rattle.record.specs.Entry.{last_client, last_cell}
+use Rattle.record.specs.Entry.{Found, last_client, last_cell}
+use Rattle.refusal.specs.declared.Refusal.TheVariants.{KindAbove, FieldAbove}
 
 -- an entry in memory is a row of four numbers: kind, client, cell, value as it is written; a field its kind hasn't got stands as 0
 unfoldable pub row_of : Entry → List ℕ
@@ -34,9 +33,9 @@ entry_of kind client cell value =
 -- what a row's four numbers give, up to place next; 24: kind above 3; 25: client above 7 or cell above 15
 unfoldable pub row_found : ℕ → ℕ → ℕ → ℕ → ℕ → Found
 row_found kind client cell value next =
-    cond (ltb 3 kind) (Fault 24)
-    (cond (ltb last_client client || (ltb kind 2 && ltb last_cell cell)) (Fault 25)
-    (At (entry_of kind client cell value) next))
+    cond (ltb 3 kind) (Err KindAbove)
+    (cond (ltb last_client client || (ltb kind 2 && ltb last_cell cell)) (Err FieldAbove)
+    (Ok (entry_of kind client cell value, next)))
 
 -- what the row at place at of ws gives
 unfoldable pub row_at : List ℕ → ℕ → Found

@@ -1,9 +1,9 @@
 -- A record in lent memory: what rows hold, and what the reader and the writer answer and leave. The paper: "The record and its bytes".
-use Rattle.std.specs.Prelude.{ℕ, ◌+◌, ◌≡◌, List, ◌++◌, cond, length, drop, ltb, leb}
+use Rattle.std.specs.Prelude.{ℕ, ◌+◌, ◌≡◌, List, ◌++◌, cond, length, drop, ltb, leb, Ok, Err}
 use Rattle.record.specs.declared.Entry.{Entry}
-use Rattle.record.specs.declared.Answer.{Answer}
-use Rattle.record.specs.declared.Answer.TheVariants.{All, Refused}
-use Rattle.record.specs.Record.{entry_limit, fresh, Held, entries, fault, held_from, bytes_held, all_of, bytes_of}
+use Rattle.refusal.specs.declared.Refusal.{Refusal}
+use Rattle.refusal.specs.declared.Refusal.TheVariants.{TooShort}
+use Rattle.record.specs.Record.{Answer, entry_limit, fresh, Held, entries, fault, held_from, bytes_held, all_of, bytes_of}
 use Rattle.rows.specs.Row.{row_of, row_at}
 
 -- the rows of a record
@@ -25,13 +25,13 @@ pub record Leaves (o : Outcome) (answer : Answer) (lent : List ℕ) : Type 0 whe
   pub leaves : lent ≡ o.lent
 
 -- nothing is written
-abbrev pub refused : ℕ → ℕ → List ℕ → Outcome
-refused k n d = record { answer = Refused k n; lent = d }
+abbrev pub refused : Refusal → ℕ → List ℕ → Outcome
+refused k n d = record { answer = Err (k, n); lent = d }
 
 -- out is written at the front, and what stands beyond it stays; 20: the lent memory is too short (entry 0 is named)
 unfoldable pub stored : List ℕ → ℕ → List ℕ → Outcome
 stored out count d =
-    cond (ltb (length d) (length out)) (refused 20 0 d) (record { answer = All count; lent = out ++ drop (length out) d })
+    cond (ltb (length d) (length out)) (refused TooShort 0 d) (record { answer = Ok count; lent = out ++ drop (length out) d })
 
 -- reading what is held into lent memory d: how many entries
 unfoldable pub read_into : Held → List ℕ → Outcome

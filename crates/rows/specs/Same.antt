@@ -1,6 +1,6 @@
 -- When two outcomes of a call are one.
 use Rattle.std.specs.Prelude.{ℕ, List, ◌≡◌, Bool}
-use Rattle.record.specs.declared.Answer.{Answer}
+use Rattle.record.specs.Record.{Answer}
 use Rattle.record.specs.Same.{SameAnswer}
 
 -- an entry stored: whether it has room, and the lent rows

@@ -8,33 +8,32 @@ ghost use Rattle.rows.specs.Row.{row_of, room_at, stored_at};
 ghost use Rattle.rows.specs.Rows.{read_outcome, Leaves};
 ghost use Rattle.rows.specs.laws.Storing.{Storable};
 
-use record::{Answer, Entry, Found};
+use record::{Answer, Entry};
+use refusal::Refusal;
 
 // Four numbers at a place.
 fn put_row(rows: &mut [u32], at: usize, row: [u32; 4])
     requires { at + 4 ≤ length rows.old }
     ensures { rows.new ≡ sets rows.old at row }
 {
-    rows[at] = row[0];
-    rows[at + 1] = row[1];
-    rows[at + 2] = row[2];
-    rows[at + 3] = row[3];
+    rows[at..at + 4].copy_from_slice(&row);
 }
 
 // An entry as a row of four numbers; a field that its kind hasn't got stands as 0.
+#[tactic(auto, unfolding(crate::specs::Row::row_of), using(number::specs::laws::ValueLaws::alternating_of_bits))]
 pub fn row_of(e: Entry) -> [u32; 4]
     ensures { result ≡ row_of e }
 {
     match e {
-        Entry::ReadAsked(client, cell) => [0, client.0 as u32, cell.0 as u32, 0],
+        Entry::ReadAsked(client, cell) => [0, u32::from(client.0), u32::from(cell.0), 0],
         Entry::WriteAsked(client, cell, v) => [
             1,
-            client.0 as u32,
-            cell.0 as u32,
+            u32::from(client.0),
+            u32::from(cell.0),
             number::alternating(v),
         ],
-        Entry::Told(client, v) => [2, client.0 as u32, 0, number::alternating(v)],
-        Entry::Done(client) => [3, client.0 as u32, 0, 0],
+        Entry::Told(client, v) => [2, u32::from(client.0), 0, number::alternating(v)],
+        Entry::Done(client) => [3, u32::from(client.0), 0, 0],
     }
 }
 
@@ -58,18 +57,10 @@ fn store_rows(s: &[u8], n: usize, rows: &mut [u32])
     ensures { rows.new ≡ (read_outcome s.now rows.old).lent }
 {
     let mut at = 0;
-    let mut i = 0;
-    while i < n {
-        match reader::entry_at(s, at) {
-            Found::Fault(k) => {
-                return;
-            }
-            Found::At(e, next) => {
-                store_row(rows, 4 * i, e);
-                at = next;
-            }
-        }
-        i += 1;
+    for i in 0..n {
+        let (e, next) = reader::entry_at(s, at).unwrap();
+        store_row(rows, 4 * i, e);
+        at = next;
     }
 }
 
@@ -77,14 +68,10 @@ fn store_rows(s: &[u8], n: usize, rows: &mut [u32])
 pub fn read_record(s: &[u8], rows: &mut [u32]) -> Answer
     ensures { Leaves (read_outcome s.now rows.old) result rows.new }
 {
-    match reader::survey(s) {
-        Answer::Refused(k, n) => Answer::Refused(k, n),
-        Answer::All(n) => {
-            if rows.len() / 4 < n {
-                return Answer::Refused(20, 0);
-            }
-            store_rows(s, n, rows);
-            Answer::All(n)
-        }
+    let n = reader::survey(s)?;
+    if rows.len() / 4 < n {
+        return Err((Refusal::TooShort, 0));
     }
+    store_rows(s, n, rows);
+    Ok(n)
 }

@@ -1,24 +1,26 @@
 // A schedule of events on a rack, with an allowance.
 #![tactic(auto)]
 
-ghost use Rattle.std.specs.Prelude.{◌≡◌, true, [], ◌∷◌, ◌+◌, ◌-◌, ◌*◌, ◌<◌, ◌≤◌, length};
+ghost use Rattle.std.specs.Prelude.{◌≡◌, true, [], ◌∷◌, ◌+◌, ◌-◌, ◌*◌, ◌<◌, ◌≤◌, length, Ok};
 ghost use Rattle.std.specs.Int.Count.{ones};
+ghost use Rattle.record.specs.Record.{entry_limit};
 ghost use Rattle.slots.specs.Words.{Maps};
 ghost use Rattle.rack.specs.Places.{slot_limit, free_at, room_of};
-ghost use Rattle.method.specs.Refusals.{is_empty};
 ghost use Rattle.rack.specs.Sound.{sound_of};
-ghost use Rattle.rack.specs.Run.{ran_of, run_from, run_of};
-ghost use Rattle.rack.specs.Refusals.{freed};
+ghost use Rattle.rack.specs.Run.{entries_in, applied_of, ran_of, run_from, run_of};
+ghost use Rattle.rack.specs.Refusals.{freed, decided};
 ghost use Rattle.runs.specs.laws.Steps.{nth_event};
-ghost use Rattle.runs.specs.laws.Sending.{slot_after, message_to};
-ghost use Rattle.runs.specs.laws.Loop.{Most};
+ghost use Rattle.runs.specs.laws.Sending.{slot_after, message_to, Sending};
+ghost use Rattle.runs.specs.laws.Loop.{Most, Shipping};
+ghost use Rattle.schedule.specs.laws.Turns.{Ready, noted};
 
 use events::{checked, client_of, decode, in_rack, place_in, slot_of};
-use method::{Decision, Event, InSlot, Message, Note, Sight};
+use method::{Decision, Event, Message, Note, Plan, Sight};
 use plan::plan;
 use quorum::{Quorums, Set};
 use rack::{Line, Rack, Ran, Slot};
 use record::Replica;
+use refusal::Refusal;
 
 // ---- the events
 
@@ -42,93 +44,131 @@ fn event_at(events: &[u32], i: usize) -> Event
 fn most(allowance: usize, words: usize) -> usize
     ensures { Most allowance words result }
 {
-    if allowance <= words / EVENT_WORDS {
-        return allowance;
-    }
-    words / EVENT_WORDS
+    allowance.min(words / EVENT_WORDS)
 }
 
 // ---- what is sent
 
 // The message to replica k.
+#[tactic(auto, unfolding(runs::specs::laws::Sending::message_to))]
 fn message_to(m: Message, k: Replica) -> Message
     ensures { result ≡ message_to m k.0 }
 {
-    let client = m.client;
-    let cell = m.cell;
-    let body = m.body;
-    Message {
-        client: client,
-        replica: k,
-        cell: cell,
-        op: m.op,
-        body: body,
-    }
+    Message { replica: k, ..m }
 }
 
 // The slot after the event: empty where it is cleared.
+#[tactic(auto, unfolding(runs::specs::laws::Sending::slot_after))]
 fn slot_after(clear: bool, slot: Slot) -> Slot
     ensures { result ≡ slot_after clear slot }
 {
-    if clear {
-        let nothing = InSlot::Empty;
-        return Slot { held: nothing };
-    }
-    slot
+    if clear { Slot { held: None } } else { slot }
 }
 
 // How many slots are free after the event's was cleared and a message went to each replica of a set.
+#[tactic(auto, unfolding(rack::specs::Refusals::freed))]
 fn room_after(room: usize, clear: bool, to: Set) -> usize
     requires { (ones to ≤ room + freed clear) × (room ≤ slot_limit) }
     ensures { result ≡ room + freed clear - ones to }
 {
-    let sent = quorum::count(to) as usize;
-    if clear {
-        return room + 1 - sent;
-    }
-    room - sent
+    room + usize::from(clear) - quorum::count(to) as usize
 }
 
-// ---- what the loop starts with
+// ---- the free slots
 
-// Which slots of the wire are free, and how many.
+// The free slots of a wire: which they are, a bit each, and how many.
 #[derive(Clone, Copy)]
-struct Start {
-    free: [u64; slots::WORDS],
+struct Free {
+    map: [u64; slots::WORDS],
     room: usize,
 }
 
-fn is_empty(held: InSlot) -> bool
-    ensures { result ≡ is_empty held }
+fn free_of(rack: &Rack) -> Free
+    ensures { (Maps (free_at rack.now.wire) result.map) × (result.room ≡ room_of rack.now.wire) }
 {
-    match held {
-        InSlot::Empty => true,
-        InSlot::Full(_) => false,
+    let mut map = [0u64; slots::WORDS];
+    for (i, slot) in rack.wire.iter().enumerate() {
+        slots::mark(&mut map, i, slot.held.is_none());
+    }
+    Free {
+        map,
+        room: slots::count(&map),
     }
 }
 
-fn start_of(rack: Rack) -> Start
-    ensures { (Maps (free_at rack.wire) result.free) × (result.room ≡ room_of rack.wire) }
+// ---- one event
+
+// Whether the event is refused, or what it leaves.
+fn decided(rack: &Rack, free: &Free, event: Event) -> Decision
+    requires { Ready rack.now free.now }
+    ensures { result ≡ decided rack.now event }
 {
-    let mut free = [0u64; slots::WORDS];
-    let mut i: usize = 0;
-    while i < Rack::SLOTS {
-        let slot = rack.wire[i];
-        let held = slot.held;
-        slots::mark(&mut free, i, is_empty(held));
-        i += 1;
+    if !in_rack(rack.settings, event) {
+        return Err(Refusal::Unknown as u8);
     }
-    Start {
-        free: free,
-        room: slots::count(&free),
+    let held = rack.wire[slot_of(event)].held;
+    let sight = Sight {
+        quorums: Quorums {
+            replicas: rack.settings.replicas,
+        },
+        power: rack.power,
+        party: rack.parties[client_of(event, held)],
+        pair: rack.pairs[place_in(held)],
+    };
+    checked(
+        plan(sight, held, event),
+        rack.count,
+        rack.parties,
+        rack.settings.clients,
+        free.room,
+    )
+}
+
+// A message goes to each replica of a set, in the lowest free slots in order.
+fn send(rack: &mut Rack, map: &mut [u64; slots::WORDS], message: Message, to: Set)
+    requires { Sending rack.old.settings.replicas rack.old.wire message to rack.old.wire map.old to }
+    ensures { Shipping rack.old message to rack.new map.new 0 }
+{
+    let mut left = to;
+    while 0 < left {
+        let k = quorum::lowest(left);
+        left = quorum::rest(left);
+        let slot = slots::take(map);
+        rack.wire[slot] = Slot {
+            held: Some(message_to(message, k)),
+        };
     }
 }
 
-// Says how long a wire is: only of a parameter does the check know it.
-fn long(wire: [Slot; Rack::SLOTS]) -> usize
-    ensures { length wire ≡ slot_limit }
+// The entry that an event adds, if any, stands last.
+fn note(rack: &mut Rack, note: Note)
+    requires { rack.old.count + entries_in note ≤ entry_limit }
+    ensures { rack.new ≡ noted rack.old note }
 {
-    0
+    match note {
+        Note::Nothing => {}
+        Note::Asked(entry) | Note::Ended(entry) => {
+            rack.lines[rack.count] = Line { entry };
+            rack.count += 1;
+        }
+    }
+}
+
+// Client, pair, power and slot are stored as planned, then the messages are sent; the entry stands last.
+fn apply(rack: &mut Rack, free: &mut Free, event: Event, plan: Plan)
+    requires { Ready rack.old free.old × (decided rack.old event ≡ Ok plan) }
+    ensures { Ready rack.new free.new × (rack.new ≡ applied_of rack.old event plan) }
+{
+    let j = slot_of(event);
+    let held = rack.wire[j].held;
+    rack.parties[client_of(event, held)] = plan.party;
+    rack.pairs[place_in(held)] = plan.pair;
+    rack.power = plan.power;
+    rack.wire[j] = slot_after(plan.clear, rack.wire[j]);
+    slots::mark(&mut free.map, j, plan.clear);
+    free.room = room_after(free.room, plan.clear, plan.to);
+    send(rack, &mut free.map, plan.message, plan.to);
+    note(rack, plan.note);
 }
 
 // ---- the schedule
@@ -137,92 +177,28 @@ fn ran(done: usize, refusal: u8, rack: Rack) -> Ran
     ensures { result ≡ ran_of done refusal rack }
 {
     Ran {
-        done: done,
-        refusal: refusal,
-        rack: rack,
+        done,
+        refusal,
+        rack,
     }
 }
 
-// The loop. Client, pair, power and slot are stored as planned, then the messages go to the lowest free slots in order; the entry stands last. It is one
-// function because an array of structs can't be lent: what stores into the rack stands where the rack is a local.
-fn go_on(mut r: Rack, start: Start, allowance: usize, events: &[u32]) -> Ran
-    requires { (sound_of r ≡ true) × ((Maps (free_at r.wire) start.free) × (start.room ≡ room_of r.wire)) }
-    ensures { result ≡ run_from 0 r allowance events.now }
+// The loop, on a sound rack: how many events were done, and the refusal that stopped it, 0 for none. The rack is lent: it is large, and a rack that is
+// handed back is copied.
+fn go_on(rack: &mut Rack, allowance: usize, events: &[u32]) -> (usize, u8)
+    requires { (sound_of rack.old ≡ true) × (length rack.old.wire ≡ slot_limit) }
+    ensures { ran_of result.0 result.1 rack.new ≡ run_from 0 rack.old allowance events.now }
 {
-    let mut free = start.free;
-    let mut room = start.room;
-    let wire = r.wire;
-    long(wire);
+    let mut free = free_of(rack);
     let n = most(allowance, events.len());
-    let mut i: usize = 0;
-    while i < n {
+    for i in 0..n {
         let event = event_at(events, i);
-        let settings = r.settings;
-        if !in_rack(settings, event) {
-            return ran(i, 3, r);
-        }
-        let j = slot_of(event);
-        let slot = r.wire[j];
-        let held = slot.held;
-        let c = client_of(event, held);
-        let a = place_in(held);
-        let party = r.parties[c];
-        let pair = r.pairs[a];
-        let quorums = Quorums {
-            replicas: settings.replicas,
-        };
-        let sight = Sight {
-            quorums: quorums,
-            power: r.power,
-            party: party,
-            pair: pair,
-        };
-        let planned = plan(sight, held, event);
-        let parties = r.parties;
-        let outcome = checked(planned, r.count, parties, settings.clients, room);
-        match outcome {
-            Decision::No(refusal) => {
-                return ran(i, refusal, r);
-            }
-            Decision::Go(p) => {
-                let party2 = p.party;
-                room = room_after(room, p.clear, p.to);
-                r.parties[c] = party2;
-                let pair2 = p.pair;
-                r.pairs[a] = pair2;
-                r.power = p.power;
-                // The slot is read again: so nothing of it has to be kept over the plan, and that is faster.
-                let old = r.wire[j];
-                r.wire[j] = slot_after(p.clear, old);
-                slots::mark(&mut free, j, p.clear);
-                let message = p.message;
-                let mut left = p.to;
-                while 0 < left {
-                    let to = message_to(message, quorum::lowest(left));
-                    left = quorum::rest(left);
-                    let f = slots::take(&mut free);
-                    let full = InSlot::Full(to);
-                    r.wire[f] = Slot { held: full };
-                }
-                i += 1;
-                let note = p.note;
-                match note {
-                    Note::Nothing => {}
-                    Note::Asked(entry) => {
-                        let t = r.count;
-                        r.lines[t] = Line { entry: entry };
-                        r.count = t + 1;
-                    }
-                    Note::Ended(entry) => {
-                        let t = r.count;
-                        r.lines[t] = Line { entry: entry };
-                        r.count = t + 1;
-                    }
-                }
-            }
+        match decided(rack, &free, event) {
+            Err(refusal) => return (i, refusal),
+            Ok(plan) => apply(rack, &mut free, event, plan),
         }
     }
-    ran(i, 0, r)
+    (n, 0)
 }
 
 // Events of four words each are taken in order until the allowance is used, the list ends or one is refused; words after the last whole event are no
@@ -230,22 +206,20 @@ fn go_on(mut r: Rack, start: Start, allowance: usize, events: &[u32]) -> Ran
 pub fn run(rack: Rack, allowance: usize, events: &[u32]) -> Ran
     ensures { result ≡ run_of rack allowance events.now }
 {
-    if allowance == 0 {
+    if allowance == 0 || events.len() < EVENT_WORDS {
         return ran(0, 0, rack);
     }
-    if events.len() < EVENT_WORDS {
-        return ran(0, 0, rack);
+    if !soundness::sound(rack) {
+        return ran(0, Refusal::Unsound as u8, rack);
     }
-    if soundness::sound(rack) {
-        return go_on(rack, start_of(rack), allowance, events);
-    }
-    ran(0, 2, rack)
+    let mut after = rack;
+    let (done, refusal) = go_on(&mut after, allowance, events);
+    ran(done, refusal, after)
 }
 
 // One event.
 pub fn step(rack: Rack, kind: u32, a: u32, b: u32, value: u32) -> Ran
     ensures { result ≡ run_of rack 1 (kind ∷ a ∷ b ∷ value ∷ []) }
 {
-    let words = [kind, a, b, value];
-    run(rack, 1, &words)
+    run(rack, 1, &[kind, a, b, value])
 }

@@ -1,11 +1,12 @@
 -- How `script::fill` goes on: storing the rest from here on gives what storing all of it gives.
 use Prim.Native.Nat.{ℕ, zero, suc, ◌+◌, ◌-◌, ◌*◌, ◌/◌, ◌≤◌, ◌<◌}
-use mathlib.Core.Path.{◌≡◌, refl, sym, ◌∙◌}
+use mathlib.Core.Path.{◌≡◌, refl, sym, subst, ◌∙◌}
 use mathlib.Core.List.{List, [], ◌∷◌}
 use native.Mathlib.Omega.{arith}
 use lib.ListN.{length}
 use lib.Seq.{sets, length-sets}
-use Rattle.script.specs.declared.Words.TheVariants.{Are, Refused}
+use Rattle.std.specs.Prelude.{Ok, Err}
+use Rattle.refusal.specs.declared.Refusal.{Refusal}
 use Rattle.script.specs.Script.{event_at, Events, none, fault, events_from, words_up_to, count_up_to, place_after, Fills}
 use Rattle.script.specs.laws.Steps.{ends, faults, goes_on}
 
@@ -20,7 +21,7 @@ unfolding count_up_to place_after words_up_to
 nothing_none zero at = record { count = refl; place = refl; words = refl }
 nothing_none (suc n) at = record { count = refl; place = refl; words = refl }
 
-unfoldable nothing_fault : (n at k byte : ℕ) → Nothing n at (fault k byte)
+unfoldable nothing_fault : (n at : ℕ) (k : Refusal) (byte : ℕ) → Nothing n at (fault k byte)
 unfolding count_up_to place_after words_up_to
 nothing_fault zero at k byte = record { count = refl; place = refl; words = refl }
 nothing_fault (suc n) at k byte = record { count = refl; place = refl; words = refl }
@@ -54,14 +55,16 @@ module _ (s : List ℕ) (first : ℕ) (d₀ d : List ℕ) (i at : ℕ) (f : Fill
   pub stops_at_end : length s ≤ at → Fills s first d₀ (record { count = i; next = at }) d
   stops_at_end h = stops _ refl (rw (ends s at h) (nothing_none _ at))
 
-  pub stops_at_fault : (k byte : ℕ) → at < length s → event_at s at ≡ Refused k byte → Fills s first d₀ (record { count = i; next = at }) d
+  pub stops_at_fault : (k : Refusal) (byte : ℕ) → at < length s → event_at s at ≡ Err (k, byte) → Fills s first d₀ (record { count = i; next = at }) d
   stops_at_fault k byte h p = stops _ refl (rw (faults s at k byte h p) (nothing_fault _ at k byte))
 
-  pub stops_full : length d₀ / 4 ≤ i → Fills s first d₀ (record { count = i; next = at }) d
-  stops_full h = stops _ refl (nothing_more _ at (events_from s at) (omega arith))
+  pub stops_full : length d₀ / 4 ≤ i → Fills s first d₀ (record { count = length d₀ / 4; next = at }) d
+  stops_full h =
+      let e : i ≡ length d₀ / 4 = omega (arith, f.few) in
+      subst (λ (n : ℕ). Fills s first d₀ (record { count = n; next = at }) d) e (stops _ refl (nothing_more _ at (events_from s at) (omega arith)))
 
   -- one event more
-  pub stores : (kind a b value next : ℕ) → i < length d₀ / 4 → at < length s → event_at s at ≡ Are kind a b value next
+  pub stores : (kind a b value next : ℕ) → i < length d₀ / 4 → at < length s → event_at s at ≡ Ok (kind, a, b, value, next)
       → Filling s first (length d₀ / 4) d₀ (sets d (4 * i) (kind ∷ a ∷ b ∷ value ∷ [])) (i + 1) next
   unfolding count_up_to place_after words_up_to
   stores kind a b value next l h p =

@@ -1,7 +1,7 @@
 -- When two outcomes of a call are one.
 use Rattle.std.specs.Prelude.{ℕ, List, ◌≡◌}
-use Rattle.script.specs.declared.Words.{Words}
 use Rattle.script.specs.declared.Filled.{Filled}
+use Rattle.script.specs.Script.{Words}
 use Rattle.script.specs.Answers.{refusal_of, place_in, four_in}
 
 -- two answers that refuse alike, at the same place, with the same numbers, and are one answer

@@ -1,20 +1,15 @@
 // A script: the bytes that say which rack is made, with what allowance, and which events are run on it.
 #![tactic(auto)]
 
-ghost use Rattle.std.specs.Prelude.{◌≡◌, [], ◌∷◌, ◌+◌, ◌≤◌, length};
+ghost use Rattle.std.specs.Prelude.{◌≡◌, [], ◌∷◌, ◌+◌, ◌≤◌, length, Ok};
 ghost use Rattle.std.proofs.lemmas.List.Edits.{sets};
-ghost use Rattle.script.specs.declared.Words.TheVariants.{Are};
-ghost use Rattle.script.specs.Script.{last_at, cell_at, fields_at, event_at, head_of, events_from, unless_fault, script_of, Fills};
+ghost use Rattle.script.specs.Script.{reading, cell_at, fields_at, event_at, head_of, events_from, unless_fault, script_of, Fills};
 
-use number::Number;
+use refusal::Refusal;
 
 // Four numbers and the place after them: the head of a script, or an event as its kind, two fields and the value as in the record. Or the refusal, and
 // the byte where the number at fault begins.
-#[derive(Clone, Copy)]
-pub enum Words {
-    Are(u32, u32, u32, u32, usize),
-    Refused(u8, usize),
-}
+pub type Words = Result<(u32, u32, u32, u32, usize), (Refusal, usize)>;
 
 // How many events were stored, and the place after them.
 #[derive(Clone, Copy)]
@@ -23,105 +18,78 @@ pub struct Filled {
     pub next: usize,
 }
 
-// The last of four numbers.
-fn read_last(s: &[u8], at: usize, x: u32, y: u32, z: u32) -> Words
-    ensures { result ≡ last_at s.now at x y z }
+// The number at a place and the place after it, or the refusal and the place itself.
+fn read_at(s: &[u8], at: usize) -> Result<(u32, usize), (Refusal, usize)>
+    ensures { result ≡ reading s.now at (λ n next. Ok (n, next)) }
 {
-    match number::read_number(s, at) {
-        Number::Refused(k) => Words::Refused(k, at),
-        Number::Is(n, next) => Words::Are(x, y, z, n, next),
-    }
+    number::read_number(s, at).map_err(|k| (k, at))
 }
 
 // The four numbers that a script begins with.
 pub fn read_head(s: &[u8]) -> Words
     ensures { result ≡ head_of s.now }
 {
-    match number::read_number(s, 0) {
-        Number::Refused(k) => Words::Refused(k, 0),
-        Number::Is(replicas, a) => match number::read_number(s, a) {
-            Number::Refused(k) => Words::Refused(k, a),
-            Number::Is(clients, b) => match number::read_number(s, b) {
-                Number::Refused(k) => Words::Refused(k, b),
-                Number::Is(cells, c) => read_last(s, c, replicas, clients, cells),
-            },
-        },
-    }
+    let (replicas, a) = read_at(s, 0)?;
+    let (clients, b) = read_at(s, a)?;
+    let (cells, c) = read_at(s, b)?;
+    let (allowance, first) = read_at(s, c)?;
+    Ok((replicas, clients, cells, allowance, first))
 }
 
 // The cell of a start, and the value where it is a write.
 fn read_cell(s: &[u8], at: usize, kind: u32, client: u32) -> Words
     ensures { result ≡ cell_at s.now at kind client }
 {
-    match number::read_number(s, at) {
-        Number::Refused(k) => Words::Refused(k, at),
-        Number::Is(cell, next) => {
-            if kind == 0 {
-                return Words::Are(kind, client, cell, 0, next);
-            }
-            read_last(s, next, kind, client, cell)
-        }
+    let (cell, next) = read_at(s, at)?;
+    if kind == 0 {
+        return Ok((kind, client, cell, 0, next));
     }
+    let (value, last) = read_at(s, next)?;
+    Ok((kind, client, cell, value, last))
 }
 
 // What follows an event's code.
 fn read_fields(s: &[u8], at: usize, kind: u32) -> Words
     ensures { result ≡ fields_at s.now at kind }
 {
-    match number::read_number(s, at) {
-        Number::Refused(k) => Words::Refused(k, at),
-        Number::Is(field, next) => {
-            if 1 < kind {
-                return Words::Are(kind, field, 0, 0, next);
-            }
-            read_cell(s, next, kind, field)
-        }
+    let (field, next) = read_at(s, at)?;
+    if 1 < kind {
+        return Ok((kind, field, 0, 0, next));
     }
+    read_cell(s, next, kind, field)
 }
 
 // The event at a place of the bytes.
 pub fn read_event(s: &[u8], at: usize) -> Words
     ensures { result ≡ event_at s.now at }
 {
-    match number::read_number(s, at) {
-        Number::Refused(k) => Words::Refused(k, at),
-        Number::Is(kind, next) => {
-            if 8 < kind {
-                return Words::Refused(15, at);
-            }
-            read_fields(s, next, kind)
-        }
+    let (kind, next) = read_at(s, at)?;
+    if 8 < kind {
+        return Err((Refusal::UnknownCode, at));
     }
+    read_fields(s, next, kind)
 }
 
-// The first fault of the events from a place on; where there is none, the four numbers and the place.
-fn check_events(s: &[u8], x: u32, y: u32, z: u32, n: u32, first: usize) -> Words
-    ensures { result ≡ unless_fault (events_from s.now first) (Are x y z n first) }
+// Reads the events from a place on up to the end of the bytes, or up to the first fault.
+fn check_events(s: &[u8], first: usize) -> Result<(), (Refusal, usize)>
+    ensures { result ≡ unless_fault (events_from s.now first) (Ok tt) }
 {
     let mut at = first;
     while at < s.len() {
-        match read_event(s, at) {
-            Words::Refused(k, byte) => {
-                return Words::Refused(k, byte);
-            }
-            Words::Are(_, _, _, _, next) => {
-                at = next;
-            }
-        }
+        let (_, _, _, _, next) = read_event(s, at)?;
+        at = next;
     }
-    Words::Are(x, y, z, n, first)
+    Ok(())
 }
 
 // The head of a script and the place of its first event, or the first fault anywhere. No memory is needed, and nothing is run.
 pub fn check(s: &[u8]) -> Words
     ensures { result ≡ script_of s.now }
 {
-    match read_head(s) {
-        Words::Refused(k, byte) => Words::Refused(k, byte),
-        Words::Are(replicas, clients, cells, allowance, first) => {
-            check_events(s, replicas, clients, cells, allowance, first)
-        }
-    }
+    let head = read_head(s)?;
+    let (_, _, _, _, first) = head;
+    check_events(s, first)?;
+    Ok(head)
 }
 
 // Four words, one after another.
@@ -129,10 +97,7 @@ fn put_event(words: &mut [u32], at: usize, kind: u32, a: u32, b: u32, value: u32
     requires { at + 4 ≤ length words.old }
     ensures { words.new ≡ sets words.old at (kind ∷ a ∷ b ∷ value ∷ []) }
 {
-    words[at] = kind;
-    words[at + 1] = a;
-    words[at + 2] = b;
-    words[at + 3] = value;
+    words[at..at + 4].copy_from_slice(&[kind, a, b, value]);
 }
 
 // Stores the events from a place on, four words each, as many as the lent words take, up to the end or the first fault.
@@ -140,31 +105,16 @@ pub fn fill(s: &[u8], at: usize, words: &mut [u32]) -> Filled
     ensures { Fills s.now at words.old result words.new }
 {
     let room = words.len() / 4;
-    let mut i: usize = 0;
     let mut next = at;
-    while i < room {
+    for i in 0..room {
         if s.len() <= next {
-            return Filled {
-                count: i,
-                next: next,
-            };
+            return Filled { count: i, next };
         }
-        match read_event(s, next) {
-            Words::Refused(_, _) => {
-                return Filled {
-                    count: i,
-                    next: next,
-                };
-            }
-            Words::Are(kind, a, b, value, after) => {
-                put_event(words, 4 * i, kind, a, b, value);
-                next = after;
-            }
-        }
-        i += 1;
+        let Ok((kind, a, b, value, after)) = read_event(s, next) else {
+            return Filled { count: i, next };
+        };
+        put_event(words, 4 * i, kind, a, b, value);
+        next = after;
     }
-    Filled {
-        count: i,
-        next: next,
-    }
+    Filled { count: room, next }
 }

@@ -1,6 +1,7 @@
 -- The bench sheet: one table of its starred lines, in the paper's order, each a fact of the definitions. `sheet` of Shown.antt shows them all. The sheet's
 -- other lines are run and compared by crate bench.
-use Rattle.std.specs.Prelude.{ℕ, ◌≡◌, List, [], ◌∷◌, ◌++◌, length, pos, negsuc}
+use Rattle.std.specs.Prelude.{ℕ, ◌≡◌, List, [], ◌∷◌, ◌++◌, length, pos, negsuc, None, Some, Option}
+use Rattle.method.specs.declared.Message.{Message}
 use Rattle.number.specs.Number.{number_bytes}
 use Rattle.number.specs.Value.{alternating_of}
 use Rattle.record.specs.declared.Entry.{Entry}
@@ -12,9 +13,6 @@ use Rattle.verdict.specs.Verdict.{taken_for, Judges}
 use Rattle.stamps.specs.declared.Pair.{Pair}
 use Rattle.method.specs.declared.Body.{Body}
 use Rattle.method.specs.declared.Body.TheVariants.{Ask, Keep}
-use Rattle.method.specs.declared.InSlot.{InSlot}
-use Rattle.method.specs.declared.InSlot.TheVariants.{Empty, Full}
-use Rattle.method.specs.declared.Work.TheVariants.{Idle}
 use Rattle.rack.specs.declared.Rack.{Rack}
 use Rattle.rack.specs.declared.Ran.{Ran}
 use Rattle.stamps.specs.Stamp.{fresh_pair}
@@ -57,15 +55,15 @@ abbrev three : List ℕ → Ran
 three events = run_of (fresh_rack (of_sizes 3 1 1)) 9 (start ++ events)
 
 -- a message of client 0's operation 1 on cell 0, to or from replica k
-abbrev message : ℕ → Body → InSlot
-message k body = Full (message_of (record { 0 = 0 }) (record { 0 = k }) (record { 0 = 0 }) 1 body)
+abbrev message : ℕ → Body → Option Message
+message k body = Some (message_of (record { 0 = 0 }) (record { 0 = k }) (record { 0 = 0 }) 1 body)
 
 -- stamp (1, 0) and value 9
 abbrev nine : Pair
 nine = record { stamp = record { number = 1; rank = 0 }; value = pos 9 }
 
 -- the first five slots
-abbrev slots : Rack → List InSlot
+abbrev slots : Rack → List (Option Message)
 slots r = held_at r 0 ∷ held_at r 1 ∷ held_at r 2 ∷ held_at r 3 ∷ held_at r 4 ∷ []
 
 -- ---- the table
@@ -124,16 +122,16 @@ pub record Sheet : Type 0 where
       (writes 0 2 (pos 5) ∷ [])
       lawful
   -- * Three replicas, client 0 writes 9 to cell 0. Asks take slots 0, 1, 2.
-  pub asks : slots (three []).rack ≡ message 0 Ask ∷ message 1 Ask ∷ message 2 Ask ∷ Empty ∷ Empty ∷ []
+  pub asks : slots (three []).rack ≡ message 0 Ask ∷ message 1 Ask ∷ message 2 Ask ∷ None ∷ None ∷ []
   -- Deliver 0, 1, 0, 1: keeps with stamp (1, 0) stand in slots 0, 1, 3.
-  pub keeps : slots (three four).rack ≡ message 0 (Keep nine) ∷ message 1 (Keep nine) ∷ message 2 Ask ∷ message 2 (Keep nine) ∷ Empty ∷ []
+  pub keeps : slots (three four).rack ≡ message 0 (Keep nine) ∷ message 1 (Keep nine) ∷ message 2 Ask ∷ message 2 (Keep nine) ∷ None ∷ []
   -- Deliver 0, 1, 0, 1: done_by.
   pub all : (three (four ++ four)).done ≡ 9
   pub none_refused : (three (four ++ four)).refusal ≡ 0
-  pub idle : (party_at (three (four ++ four)).rack 0).work ≡ Idle
+  pub idle : (party_at (three (four ++ four)).rack 0).work ≡ None
   pub both_entries : record_of (three (four ++ four)).rack ≡ writes 0 0 (pos 9) ∷ done_by 0 ∷ []
   -- Slots 2 and 3 are still used;
-  pub left : slots (three (four ++ four)).rack ≡ Empty ∷ Empty ∷ message 2 Ask ∷ message 2 (Keep nine) ∷ Empty ∷ []
+  pub left : slots (three (four ++ four)).rack ≡ None ∷ None ∷ message 2 Ask ∷ message 2 (Keep nine) ∷ None ∷ []
   pub free : room_of (three (four ++ four)).rack.wire ≡ 254
   -- replica 2 still has 0.
   pub first : pair_at (three (four ++ four)).rack 0 0 ≡ nine

@@ -1,8 +1,9 @@
 // Which of the wire's slots are free, a bit each: the lowest is found by counting zeros, the free ones by counting ones.
 #![tactic(auto)]
 
-ghost use Rattle.std.specs.Prelude.{◌≡◌, Bool, ℕ, ◌-◌, ◌^◌, ◌<◌, ◌≤◌};
-ghost use Rattle.std.specs.Int.Count.{ones, count_trailing_zeros};
+ghost use Rattle.std.specs.Prelude.{◌≡◌, Bool, ℕ, ◌-◌, ◌^◌, ◌<◌, ◌≤◌, nat_lt};
+ghost use Rattle.std.specs.List.{position};
+ghost use Rattle.std.specs.Int.Count.{count_trailing_zeros};
 ghost use Rattle.slots.specs.Free.{word_bits, slot_count, first_free, count_free, given_at, marked_at};
 ghost use Rattle.slots.specs.Words.{Maps, Took};
 
@@ -18,7 +19,7 @@ fn low(x: u64) -> usize
     requires { 0 < x }
     ensures { (result ≡ count_trailing_zeros word_bits x) × (result < word_bits) }
 {
-    u64::trailing_zeros(x) as usize
+    x.trailing_zeros() as usize
 }
 
 // x without that bit.
@@ -26,46 +27,38 @@ fn rest(x: u64) -> u64
     requires { 0 < x }
     ensures { result ≡ x - 2 ^ count_trailing_zeros word_bits x }
 {
-    let k = low(x);
-    x - (1u64 << k)
+    x - (1 << low(x))
 }
 
-// How many bits of x are set.
-fn bits(x: u64) -> usize
-    ensures { (result ≡ ones x) × (result ≤ word_bits) }
+// The first word with a slot that is free.
+fn first_word(free: &[u64; WORDS]) -> Option<usize>
+    ensures { result ≡ position (nat_lt 0) free.now }
 {
-    u64::count_ones(x) as usize
+    free.iter().position(|word| 0 < *word)
 }
 
 // The lowest free slot; as many as there are where none is free.
 pub fn lowest(free: &[u64; WORDS]) -> usize
     ensures { (result ≤ slot_count) × ((f : ℕ → Bool) → Maps f free.now → result ≡ first_free f) }
 {
-    let mut j: usize = 0;
-    while j < WORDS {
-        let word = free[j];
-        if 0 < word {
-            return BITS * j + low(word);
-        }
-        j += 1;
+    match first_word(free) {
+        Some(j) => BITS * j + low(free[j]),
+        None => SLOTS,
     }
-    SLOTS
 }
 
 // The lowest free slot, which is then taken; as many as there are where none is free, and nothing changes.
 pub fn take(free: &mut [u64; WORDS]) -> usize
     ensures { (result ≤ slot_count) × ((f : ℕ → Bool) → Maps f free.old → Took f free.new result) }
 {
-    let mut j: usize = 0;
-    while j < WORDS {
-        let x = free[j];
-        if 0 < x {
-            free[j] = rest(x);
-            return BITS * j + low(x);
+    match first_word(free) {
+        Some(j) => {
+            let word = free[j];
+            free[j] = rest(word);
+            BITS * j + low(word)
         }
-        j += 1;
+        None => SLOTS,
     }
-    SLOTS
 }
 
 // The slot is free again; one past the end changes nothing.
@@ -75,9 +68,7 @@ pub fn give(free: &mut [u64; WORDS], slot: usize)
     if SLOTS <= slot {
         return;
     }
-    let j = slot / BITS;
-    let k = slot % BITS;
-    free[j] = free[j] | (1u64 << k);
+    free[slot / BITS] |= 1 << (slot % BITS);
 }
 
 // The slot is free again where it is clear.
@@ -93,11 +84,5 @@ pub fn mark(free: &mut [u64; WORDS], slot: usize, clear: bool)
 pub fn count(free: &[u64; WORDS]) -> usize
     ensures { (result ≤ slot_count) × ((f : ℕ → Bool) → Maps f free.now → result ≡ count_free f) }
 {
-    let mut total: usize = 0;
-    let mut i: usize = 0;
-    while i < WORDS {
-        total += bits(free[i]);
-        i += 1;
-    }
-    total
+    free.iter().map(|word| word.count_ones() as usize).sum()
 }

@@ -1,26 +1,22 @@
 -- What a test that the code makes says of a definition.
-use Prim.Native.Nat.{ℕ, ◌+◌, ◌≤◌, ◌<◌}
-use mathlib.Core.Path.{◌≡◌, ap, sym, ◌∙◌}
-use mathlib.Core.Bool.{Bool, true, false}
-use native.Mathlib.Omega.{arith}
-use lib.Dec.{leb}
-use borrow.Author.Tests.{lt-leb}
-use Rattle.record.specs.Record.{entry_limit}
-use Rattle.rack.specs.declared.Rack.{Rack}
-use Rattle.rack.specs.Sound.{all_below, owed, record_fits, owed_in}
-use Rattle.rack.specs.laws.Owed.{owed_in_lem}
+use Rattle.std.proofs.Common.{ℕ, zero, suc, ◌+◌, ◌≤◌, ◌≡◌, Bool, ◌&&◌, List, length, get_or, take, refl, ap, sym, ◌∙◌, arith}
+use Rattle.std.specs.List.{list_all}
+use Rattle.std.proofs.lemmas.List.Folds.{list_all_more}
+use Rattle.std.proofs.lemmas.List.{take_all}
+use Rattle.rack.specs.Sound.{all_below}
 
--- ---- loops
+-- ---- a test of each
 
-pub all_end : (n i : ℕ) (f : ℕ → Bool) → n ≤ i → i ≤ n → all_below i f ≡ true → true ≡ all_below n f
-all_end n i f h l e = let q : n ≡ i = omega arith in sym (ap (λ (k : ℕ). all_below k f) q ∙ e)
+-- of the first n of a list
+pub all_first : {X : Type 0} (test : X → Bool) (xs : List X) (d : X) (n : ℕ) → n ≤ length xs → list_all test (take n xs) ≡ all_below n (λ i. test (get_or xs i d))
+unfolding all_below
+all_first test xs d zero h = refl
+all_first test xs d (suc n) h =
+    let e : suc n ≡ n + 1 = omega arith in
+    ap (λ k. list_all test (take k xs)) e
+    ∙ list_all_more test xs n d (omega arith)
+    ∙ ap (λ b. b && test (get_or xs n d)) (all_first test xs d n (omega arith))
 
--- ---- the record
-
-pub record_over : (r : Rack) → entry_limit < r.count → false ≡ record_fits r
-unfolding record_fits
-record_over r h = sym (lt-leb (r.count + owed r) entry_limit (omega arith))
-
-pub record_is : (r : Rack) (n : ℕ) → n ≡ owed_in r.settings.clients r.parties → leb (r.count + n) entry_limit ≡ record_fits r
-unfolding record_fits
-record_is r n e = ap (λ (k : ℕ). leb (r.count + k) entry_limit) (e ∙ sym (owed_in_lem r))
+-- of a list with n places
+pub all_list : {X : Type 0} (test : X → Bool) (xs : List X) (d : X) (n : ℕ) → length xs ≡ n → list_all test xs ≡ all_below n (λ i. test (get_or xs i d))
+all_list test xs d n e = sym (ap (list_all test) (take_all n xs (omega arith))) ∙ all_first test xs d n (omega arith)

@@ -4,8 +4,8 @@
 ghost use Rattle.std.specs.Prelude.{◌≡◌};
 ghost use Rattle.stamps.specs.Stamp.{stamp_less, raised, fresh_pair};
 
-// Stamps compare by number, then rank; a rank is the number of the client that chose the stamp.
-#[derive(Clone, Copy)]
+// Stamps compare by number, then rank, in the order of the fields; a rank is the number of the client that chose the stamp.
+#[derive(Clone, Copy, PartialEq, Eq, PartialOrd, Ord)]
 pub struct Stamp {
     pub number: u32,
     pub rank: u8,
@@ -17,32 +17,26 @@ impl Stamp {
 }
 
 // What a replica keeps for one cell.
-#[derive(Clone, Copy)]
+#[derive(Clone, Copy, PartialEq, Eq)]
 pub struct Pair {
     pub value: i32,
     pub stamp: Stamp,
 }
 
 // Whether s is the lesser stamp: by number, then rank.
+#[tactic(auto, unfolding(crate::specs::Stamp::stamp_less))]
 pub fn less(s: Stamp, t: Stamp) -> bool
     ensures { result ≡ stamp_less s t }
 {
-    if s.number < t.number {
-        return true;
-    }
-    if t.number < s.number {
-        return false;
-    }
-    s.rank < t.rank
+    s < t
 }
 
 // The pair of the greater stamp; the first, where the two stamps are the same.
+#[tactic(auto, unfolding(crate::specs::Stamp::raised))]
 fn greater(pair: Pair, other: Pair) -> Pair
     ensures { result ≡ raised pair other }
 {
-    let s = pair.stamp;
-    let t = other.stamp;
-    if less(s, t) {
+    if less(pair.stamp, other.stamp) {
         return other;
     }
     pair
@@ -68,6 +62,6 @@ pub fn raise(pair: Pair, other: Pair) -> Pair
 pub fn fresh_pair() -> Pair
     ensures { result ≡ fresh_pair }
 {
-    let s = Stamp { number: 0, rank: 0 };
-    Pair { stamp: s, value: 0 }
+    let stamp = Stamp { number: 0, rank: 0 };
+    Pair { stamp, value: 0 }
 }

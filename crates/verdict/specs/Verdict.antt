@@ -4,6 +4,9 @@ use Rattle.number.specs.Value.{alternating_of}
 use Rattle.record.specs.declared.Entry.{Entry}
 use Rattle.record.specs.declared.Entry.TheVariants.{ReadAsked, WriteAsked, Told, Done}
 use Rattle.record.specs.Record.{Held, entries, fault, bytes_held}
+use Rattle.refusal.specs.declared.Refusal.{Refusal}
+use Rattle.refusal.specs.declared.Refusal.TheVariants.{AskedAgain}
+use Rattle.refusal.specs.Number.{paper_number}
 use Rattle.law.specs.Operation.{operations}
 use Rattle.law.specs.Order.{Lawful}
 use Rattle.law.specs.Part.{part_of}
@@ -32,7 +35,7 @@ repeats earlier (Done client) = false
 -- 29: the first such entry is named; n is the number of the first of es, and `earlier` stand before them
 unfoldable pub distinct_from : List Entry → ℕ → List Entry → Held → Held
 distinct_from earlier n [] whole = whole
-distinct_from earlier n (e ∷ es) whole = cond (repeats earlier e) (fault 29 n) (distinct_from (e ∷ earlier) (n + 1) es whole)
+distinct_from earlier n (e ∷ es) whole = cond (repeats earlier e) (fault AskedAgain n) (distinct_from (e ∷ earlier) (n + 1) es whole)
 
 -- 29 comes after reading
 unfoldable pub distinct : Held → Held
@@ -48,8 +51,12 @@ pub record LowestCell (es : List Entry) (c : ℕ) : Type 0 where
   pub unlawful : ¬ Lawful (operations (part_of c es))
   pub below : (d : ℕ) → d < c → Lawful (operations (part_of d es))
 
+-- what is held is refused by the number k, and entry n is named
+abbrev pub RefusedBy : Held → ℕ → ℕ → Type 0
+RefusedBy h k n = (r : Refusal) × ((h ≡ fault r n) × (k ≡ paper_number r))
+
 -- the verdict on what is held
 abbrev pub Judges : Held → Verdict → Type 0
 Judges h says_lawful = (es : List Entry) × ((h ≡ entries es) × Lawful (operations es))
 Judges h (says_unlawful c) = (es : List Entry) × ((h ≡ entries es) × LowestCell es c.0)
-Judges h (says_refused k n) = h ≡ fault k n
+Judges h (says_refused k n) = RefusedBy h k n

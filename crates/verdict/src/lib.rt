@@ -2,15 +2,16 @@
 // stop and greatest start, and one sweeps over the clusters by place.
 #![tactic(auto)]
 
-ghost use Rattle.std.specs.Prelude.{◌≡◌, ◌+◌, ◌<◌, ◌≤◌, min, max, length, get_or, set, cond, eqb};
+ghost use Rattle.std.specs.Prelude.{◌≡◌, ◌+◌, ◌<◌, ◌≤◌, min, max, length, get_or, set, cond, eqb, IfSome};
 ghost use Rattle.record.specs.Record.{entry_limit};
 ghost use Rattle.record.specs.Entry.{cell_limit};
-ghost use Rattle.clusters.specs.laws.Arrays.{arrays, Fit, Ready, Taking, Tally, OwnNumbers, stop_of, mark_of, Scattering, Scattered, Sweepable, Visited, Swept, LowestIn};
+ghost use Rattle.clusters.specs.laws.Arrays.{Fit, Ready, Taking, Tally, OwnNumbers, stop_of, mark_of, Scattering, Scattered, Sweepable, Visited, Swept, LowestIn, cell_or_limit};
 ghost use Rattle.verdict.specs.Verdict.{taken_for, Judges};
 ghost use Rattle.verdict.specs.laws.Judging.{Settles, JudgesIn};
 
-use chains::{CHAINS, Linked, Write};
-use record::{Answer, Cell, ENTRY_LIMIT};
+use chains::{CHAINS, Entries, Table};
+use record::{Cell, ENTRY_LIMIT};
+use refusal::Refusal;
 
 // How many places clusters have, among them the one beyond those of all entries; and the stop of what has none.
 const PLACES: usize = 2 * ENTRY_LIMIT;
@@ -19,8 +20,8 @@ const BEYOND: u16 = ENTRY_LIMIT as u16;
 
 const FAR: u16 = u16::MAX;
 
-// What stands for no cell.
-const NO_CELL: u8 = Cell::LIMIT as u8;
+// How many cells there are at most.
+const CELLS: u8 = Cell::LIMIT as u8;
 
 // What the judge says of a record.
 #[derive(Clone, Copy)]
@@ -30,225 +31,34 @@ pub enum Verdict {
     Refused(u8, usize),
 }
 
-fn wide(x: u16) -> usize
-    ensures { (result ≡ x) × (result < 65536) }
-{
-    x as usize
+// What is gathered of each cluster, by its write's number: its least stop and its greatest start.
+#[derive(Drop)]
+struct Zones {
+    least: [u16; ENTRY_LIMIT],
+    most: [u16; ENTRY_LIMIT],
 }
 
-fn wide_cell(x: u8) -> usize
-    ensures { (result ≡ x) × (result < 256) }
-{
-    x as usize
-}
-
-fn narrow(x: usize) -> u16
-    requires { x < 65536 }
-    ensures { result ≡ x }
-{
-    x as u16
-}
-
-fn lesser(x: u16, y: u16) -> u16
-    ensures { result ≡ min x y }
-{
-    if x < y { x } else { y }
-}
-
-fn greater(x: u16, y: u16) -> u16
-    ensures { result ≡ max x y }
-{
-    if x < y { y } else { x }
+// What is gathered of each cell: how far it reaches, at first the last start of a read of zero, and its mark.
+#[derive(Drop)]
+struct Cells {
+    reach: [u16; Cell::LIMIT],
+    bad: [u8; Cell::LIMIT],
 }
 
 // A cell's mark: 1 once a cluster's least stop comes before the cell's reach.
+#[tactic(auto, unfolding(clusters::specs::laws::Arrays::mark_of))]
 fn mark_of(least: u16, reach: u16, mark: u8) -> u8
     ensures { result ≡ mark_of least reach mark }
 {
     if least < reach { 1 } else { mark }
 }
 
-// Before any read a cluster's greatest start is its write's.
-fn own_numbers(n: usize, most: &mut [u16; ENTRY_LIMIT])
-    requires { (n ≤ entry_limit) × (length most.old ≡ entry_limit) }
-    ensures { OwnNumbers n most.new }
-{
-    let mut i: usize = 0;
-    while i < n {
-        most[i] = narrow(i);
-        i += 1;
-    }
-}
-
 // The stop of a write that ends at p; far where the entry ends no write. A select, so that no branch depends on the kind.
+#[tactic(auto, unfolding(clusters::specs::laws::Arrays::stop_of))]
 fn stop_of(kind: u8, p: u16) -> u16
     ensures { result ≡ stop_of kind p }
 {
     if kind == 3 { p } else { FAR }
-}
-
-// A write's end is an end of its own cluster; no other entry lowers anything here.
-fn take_done(
-    kinds: &[u8; ENTRY_LIMIT],
-    starts: &[u16; ENTRY_LIMIT],
-    least: &mut [u16; ENTRY_LIMIT],
-    p: usize,
-)
-    requires { (p < entry_limit) × (get_or starts.now p 0 < entry_limit) }
-    ensures { least.new ≡ set least.old (get_or starts.now p 0)
-        (min (get_or least.old (get_or starts.now p 0) 0) (stop_of (get_or kinds.now p 0) p)) }
-{
-    let w = wide(starts[p]);
-    let old = least[w];
-    least[w] = lesser(old, stop_of(kinds[p], narrow(p)));
-}
-
-// A read of zero: nothing may end before the last of them begins.
-fn take_zero(
-    cells: &[u8; ENTRY_LIMIT],
-    starts: &[u16; ENTRY_LIMIT],
-    zero: &mut [u16; Cell::LIMIT],
-    p: usize,
-)
-    requires { (p < entry_limit) × (get_or cells.now p 0 < cell_limit) }
-    ensures { zero.new ≡ set zero.old (get_or cells.now p 0)
-        (max (get_or zero.old (get_or cells.now p 0) 0) (get_or starts.now p 0)) }
-{
-    let c = wide_cell(cells[p]);
-    let old = zero[c];
-    zero[c] = greater(old, starts[p]);
-}
-
-// A read's end and start into the cluster of the write w.
-fn join(
-    starts: &[u16; ENTRY_LIMIT],
-    least: &mut [u16; ENTRY_LIMIT],
-    most: &mut [u16; ENTRY_LIMIT],
-    p: usize,
-    w: usize,
-)
-    requires { (p < entry_limit) × (w < entry_limit) }
-    ensures { (least.new ≡ set least.old w (min (get_or least.old w 0) p)) ×
-        (most.new ≡ set most.old w (max (get_or most.old w 0) (get_or starts.now p 0))) }
-{
-    let low = least[w];
-    least[w] = lesser(low, narrow(p));
-    let high = most[w];
-    most[w] = greater(high, starts[p]);
-}
-
-// The cell of entry p has a read that gives what no write before its end asked.
-fn mark(cells: &[u8; ENTRY_LIMIT], bad: &mut [u8; Cell::LIMIT], p: usize)
-    requires { (p < entry_limit) × (get_or cells.now p 0 < cell_limit) }
-    ensures { bad.new ≡ set bad.old (get_or cells.now p 0) 1 }
-{
-    let c = wide_cell(cells[p]);
-    bad[c] = 1;
-}
-
-// A read's end: a read of zero, or one of its write's cluster.
-fn take_read(
-    kinds: &[u8; ENTRY_LIMIT],
-    cells: &[u8; ENTRY_LIMIT],
-    values: &[u32; ENTRY_LIMIT],
-    starts: &[u16; ENTRY_LIMIT],
-    n: usize,
-    head: &[u16; CHAINS],
-    next: &[u16; ENTRY_LIMIT],
-    least: &mut [u16; ENTRY_LIMIT],
-    most: &mut [u16; ENTRY_LIMIT],
-    zero: &mut [u16; Cell::LIMIT],
-    bad: &mut [u8; Cell::LIMIT],
-    p: usize,
-)
-    requires { (get_or kinds.now p 0 ≡ 2) × Taking (arrays kinds.now cells.now values.now starts.now) n p head.now next.now least.old most.old zero.old
-        bad.old }
-    ensures { Tally (arrays kinds.now cells.now values.now starts.now) n (p + 1) least.new most.new
-        zero.new bad.new }
-{
-    let v = values[p];
-    if v == 0 {
-        take_zero(cells, starts, zero, p);
-        return;
-    }
-    let x = cells[p];
-    match chains::find(kinds, cells, values, n, head, next, Cell(x), v) {
-        Write::None => mark(cells, bad, p),
-        Write::At(w) => {
-            join(starts, least, most, p, w);
-            if p < w {
-                mark(cells, bad, p);
-                return;
-            }
-        }
-    }
-}
-
-// Entry p: only ends are taken. An unfinished read is in no cluster, and an unfinished write has no end.
-fn take_entry(
-    kinds: &[u8; ENTRY_LIMIT],
-    cells: &[u8; ENTRY_LIMIT],
-    values: &[u32; ENTRY_LIMIT],
-    starts: &[u16; ENTRY_LIMIT],
-    n: usize,
-    head: &[u16; CHAINS],
-    next: &[u16; ENTRY_LIMIT],
-    least: &mut [u16; ENTRY_LIMIT],
-    most: &mut [u16; ENTRY_LIMIT],
-    zero: &mut [u16; Cell::LIMIT],
-    bad: &mut [u8; Cell::LIMIT],
-    p: usize,
-)
-    requires { Taking (arrays kinds.now cells.now values.now starts.now) n p head.now next.now least.old most.old zero.old bad.old }
-    ensures { Tally (arrays kinds.now cells.now values.now starts.now) n (p + 1) least.new most.new
-        zero.new bad.new }
-{
-    take_done(kinds, starts, &mut *least, p);
-    if kinds[p] == 2 {
-        take_read(
-            kinds, cells, values, starts, n, head, next, least, most, zero, bad, p,
-        );
-        return;
-    }
-}
-
-// Every end into its cluster.
-fn take_ends(
-    kinds: &[u8; ENTRY_LIMIT],
-    cells: &[u8; ENTRY_LIMIT],
-    values: &[u32; ENTRY_LIMIT],
-    starts: &[u16; ENTRY_LIMIT],
-    n: usize,
-    head: &[u16; CHAINS],
-    next: &[u16; ENTRY_LIMIT],
-    least: &mut [u16; ENTRY_LIMIT],
-    most: &mut [u16; ENTRY_LIMIT],
-    zero: &mut [u16; Cell::LIMIT],
-    bad: &mut [u8; Cell::LIMIT],
-)
-    requires { Ready (arrays kinds.now cells.now values.now starts.now) n head.now next.now × Tally (arrays kinds.now cells.now values.now starts.now) n 0
-        least.old most.old zero.old bad.old }
-    ensures { Tally (arrays kinds.now cells.now values.now starts.now) n n least.new most.new
-        zero.new bad.new }
-{
-    let mut p: usize = 0;
-    while p < n {
-        take_entry(
-            kinds,
-            cells,
-            values,
-            starts,
-            n,
-            head,
-            next,
-            &mut *least,
-            &mut *most,
-            &mut *zero,
-            &mut *bad,
-            p,
-        );
-        p += 1;
-    }
 }
 
 // A write's place; beyond all places where the entry is no write. A select again.
@@ -258,219 +68,240 @@ fn place_of(kind: u8, place: u16) -> u16
     if kind == 1 { place } else { BEYOND }
 }
 
-// A write's cluster to its place.
-fn place(
-    kinds: &[u8; ENTRY_LIMIT],
-    cells: &[u8; ENTRY_LIMIT],
-    values: &[u32; ENTRY_LIMIT],
-    starts: &[u16; ENTRY_LIMIT],
-    n: usize,
-    least: &[u16; ENTRY_LIMIT],
-    most: &[u16; ENTRY_LIMIT],
-    at: &mut [u16; PLACES],
-    p: usize,
-)
-    requires { (p < n) × Scattering (arrays kinds.now cells.now values.now starts.now) n least.now most.now × Scattered
-        (arrays kinds.now cells.now values.now starts.now) n least.now most.now p at.old }
-    ensures { Scattered (arrays kinds.now cells.now values.now starts.now) n least.now most.now (p + 1)
-        at.new }
-{
-    let i = wide(place_of(kinds[p], lesser(least[p], most[p])));
-    at[i] = narrow(p);
-}
+impl Zones {
+    // Before any read a cluster's greatest start is its write's.
+    fn own_numbers(&mut self, n: usize)
+        requires { n ≤ entry_limit }
+        ensures { OwnNumbers n self.new.most × (self.new.least ≡ self.old.least) }
+    {
+        for i in 0..n {
+            self.most[i] = i as u16;
+        }
+    }
 
-// Every cluster to its place: the first of its least stop and greatest start. No two share one.
-fn scatter(
-    kinds: &[u8; ENTRY_LIMIT],
-    cells: &[u8; ENTRY_LIMIT],
-    values: &[u32; ENTRY_LIMIT],
-    starts: &[u16; ENTRY_LIMIT],
-    n: usize,
-    least: &[u16; ENTRY_LIMIT],
-    most: &[u16; ENTRY_LIMIT],
-    at: &mut [u16; PLACES],
-)
-    requires { Scattering (arrays kinds.now cells.now values.now starts.now) n least.now most.now × Scattered
-        (arrays kinds.now cells.now values.now starts.now) n least.now most.now 0 at.old }
-    ensures { Scattered (arrays kinds.now cells.now values.now starts.now) n least.now most.now n
-        at.new }
-{
-    let mut p: usize = 0;
-    while p < n {
-        place(kinds, cells, values, starts, n, least, most, &mut *at, p);
-        p += 1;
+    // A write's end is an end of its own cluster; no other entry lowers anything here.
+    fn take_done(&mut self, entries: &Entries, p: usize)
+        requires { (p < entry_limit) × (get_or entries.now.starts p 0 < entry_limit) }
+        ensures { (self.new.least ≡ set self.old.least (get_or entries.now.starts p 0)
+            (min (get_or self.old.least (get_or entries.now.starts p 0) 0) (stop_of (get_or entries.now.kinds p 0) p))) ×
+            (self.new.most ≡ self.old.most) }
+    {
+        let w = entries.starts[p] as usize;
+        self.least[w] = self.least[w].min(stop_of(entries.kinds[p], p as u16));
+    }
+
+    // A read's end and start into the cluster of the write w.
+    fn join(&mut self, entries: &Entries, p: usize, w: usize)
+        requires { (p < entry_limit) × (w < entry_limit) }
+        ensures { (self.new.least ≡ set self.old.least w (min (get_or self.old.least w 0) p)) ×
+            (self.new.most ≡ set self.old.most w (max (get_or self.old.most w 0) (get_or entries.now.starts p 0))) }
+    {
+        let stop = self.least[w].min(p as u16);
+        let start = self.most[w].max(entries.starts[p]);
+        self.least[w] = stop;
+        self.most[w] = start;
     }
 }
 
-// The cluster of the write w, which stands at place p: it marks its cell if it ends before the cell's reach, and carries the reach on.
-fn meet(
-    cells: &[u8; ENTRY_LIMIT],
-    least: &[u16; ENTRY_LIMIT],
-    most: &[u16; ENTRY_LIMIT],
-    reach: &mut [u16; Cell::LIMIT],
-    bad: &mut [u8; Cell::LIMIT],
-    w: usize,
+impl Cells {
+    // A read of zero: nothing may end before the last of them begins.
+    fn take_zero(&mut self, entries: &Entries, p: usize)
+        requires { (p < entry_limit) × (get_or entries.now.cells p 0 < cell_limit) }
+        ensures { (self.new.reach ≡ set self.old.reach (get_or entries.now.cells p 0)
+            (max (get_or self.old.reach (get_or entries.now.cells p 0) 0) (get_or entries.now.starts p 0))) ×
+            (self.new.bad ≡ self.old.bad) }
+    {
+        let c = entries.cells[p] as usize;
+        self.reach[c] = self.reach[c].max(entries.starts[p]);
+    }
+
+    // The cell of entry p has a read that gives what no write before its end asked.
+    fn mark(&mut self, entries: &Entries, p: usize)
+        requires { (p < entry_limit) × (get_or entries.now.cells p 0 < cell_limit) }
+        ensures { (self.new.bad ≡ set self.old.bad (get_or entries.now.cells p 0) 1) × (self.new.reach ≡ self.old.reach) }
+    {
+        self.bad[entries.cells[p] as usize] = 1;
+    }
+
+    // The cluster of the write w, which stands at place p: it marks its cell if it ends before the cell's reach, and carries the reach on.
+    fn meet(&mut self, entries: &Entries, zones: &Zones, w: usize)
+        requires { (w < entry_limit) × (get_or entries.now.cells w 0 < cell_limit) }
+        ensures { (self.new.reach ≡ set self.old.reach (get_or entries.now.cells w 0)
+            (max (get_or self.old.reach (get_or entries.now.cells w 0) 0) (get_or zones.now.most w 0))) ×
+            (self.new.bad ≡ set self.old.bad (get_or entries.now.cells w 0)
+            (mark_of (get_or zones.now.least w 0) (get_or self.old.reach (get_or entries.now.cells w 0) 0)
+            (get_or self.old.bad (get_or entries.now.cells w 0) 0))) }
+    {
+        let c = entries.cells[w] as usize;
+        let reach = self.reach[c];
+        self.bad[c] = mark_of(zones.least[w], reach, self.bad[c]);
+        self.reach[c] = reach.max(zones.most[w]);
+    }
+
+    // The lowest marked cell.
+    fn lowest(&self) -> Option<Cell>
+        ensures { LowestIn self.now.bad (cell_or_limit result) × IfSome result (λ c. c.0 < cell_limit) }
+    {
+        for c in 0..CELLS {
+            if self.bad[c as usize] != 0 {
+                return Some(Cell(c));
+            }
+        }
+        None
+    }
+}
+
+// A read's end: a read of zero, or one of its write's cluster.
+fn take_read(
+    entries: &Entries,
+    n: usize,
+    table: &Table,
+    zones: &mut Zones,
+    cells: &mut Cells,
+    p: usize,
 )
-    requires { (w < entry_limit) × (get_or cells.now w 0 < cell_limit) }
-    ensures { (reach.new ≡ set reach.old (get_or cells.now w 0)
-        (max (get_or reach.old (get_or cells.now w 0) 0) (get_or most.now w 0))) ×
-        (bad.new ≡ set bad.old (get_or cells.now w 0)
-        (mark_of (get_or least.now w 0) (get_or reach.old (get_or cells.now w 0) 0) (get_or bad.old (get_or cells.now w 0) 0))) }
+    requires { (get_or entries.now.kinds p 0 ≡ 2) ×
+        Taking entries.now n p table.now.head table.now.next zones.old.least zones.old.most cells.old.reach cells.old.bad }
+    ensures { Tally entries.now n (p + 1) zones.new.least zones.new.most cells.new.reach cells.new.bad }
 {
-    let c = wide_cell(cells[w]);
-    let r = reach[c];
-    let b = bad[c];
-    bad[c] = mark_of(least[w], r, b);
-    reach[c] = greater(r, most[w]);
+    let value = entries.values[p];
+    if value == 0 {
+        cells.take_zero(entries, p);
+        return;
+    }
+    match table.find(entries, n, Cell(entries.cells[p]), value) {
+        None => cells.mark(entries, p),
+        Some(w) => {
+            zones.join(entries, p, w);
+            if p < w {
+                cells.mark(entries, p);
+            }
+        }
+    }
+}
+
+// Entry p: only ends are taken. An unfinished read is in no cluster, and an unfinished write has no end.
+fn take_entry(
+    entries: &Entries,
+    n: usize,
+    table: &Table,
+    zones: &mut Zones,
+    cells: &mut Cells,
+    p: usize,
+)
+    requires { Taking entries.now n p table.now.head table.now.next zones.old.least zones.old.most cells.old.reach cells.old.bad }
+    ensures { Tally entries.now n (p + 1) zones.new.least zones.new.most cells.new.reach cells.new.bad }
+{
+    zones.take_done(entries, p);
+    if entries.kinds[p] == 2 {
+        take_read(entries, n, table, zones, cells, p);
+    }
+}
+
+// Every end into its cluster.
+fn take_ends(entries: &Entries, n: usize, table: &Table, zones: &mut Zones, cells: &mut Cells)
+    requires { Ready entries.now n table.now.head table.now.next ×
+        Tally entries.now n 0 zones.old.least zones.old.most cells.old.reach cells.old.bad }
+    ensures { Tally entries.now n n zones.new.least zones.new.most cells.new.reach cells.new.bad }
+{
+    for p in 0..n {
+        take_entry(entries, n, table, zones, cells, p);
+    }
+}
+
+// A write's cluster to its place.
+fn place(entries: &Entries, n: usize, zones: &Zones, at: &mut [u16; PLACES], p: usize)
+    requires { (p < n) × Scattering entries.now n zones.now.least zones.now.most ×
+        Scattered entries.now n zones.now.least zones.now.most p at.old }
+    ensures { Scattered entries.now n zones.now.least zones.now.most (p + 1) at.new }
+{
+    let i = place_of(entries.kinds[p], zones.least[p].min(zones.most[p]));
+    at[i as usize] = p as u16;
+}
+
+// Every cluster to its place: the first of its least stop and greatest start. No two share one.
+fn scatter(entries: &Entries, n: usize, zones: &Zones, at: &mut [u16; PLACES])
+    requires { Scattering entries.now n zones.now.least zones.now.most ×
+        Scattered entries.now n zones.now.least zones.now.most 0 at.old }
+    ensures { Scattered entries.now n zones.now.least zones.now.most n at.new }
+{
+    for p in 0..n {
+        place(entries, n, zones, at, p);
+    }
 }
 
 // One place of the sweep. The kinds, values and starts say which clusters are meant, and are not read.
 fn visit(
-    kinds: &[u8; ENTRY_LIMIT],
-    cells: &[u8; ENTRY_LIMIT],
-    values: &[u32; ENTRY_LIMIT],
-    starts: &[u16; ENTRY_LIMIT],
+    entries: &Entries,
     n: usize,
-    least: &[u16; ENTRY_LIMIT],
-    most: &[u16; ENTRY_LIMIT],
+    zones: &Zones,
     at: &[u16; PLACES],
-    reach: &mut [u16; Cell::LIMIT],
-    bad: &mut [u8; Cell::LIMIT],
+    cells: &mut Cells,
     p: usize,
 )
-    requires { (p < n) × Sweepable (arrays kinds.now cells.now values.now starts.now) n least.now most.now at.now }
-    ensures { Visited (arrays kinds.now cells.now values.now starts.now) n least.now most.now p
-        reach.old bad.old reach.new bad.new }
+    requires { (p < n) × Sweepable entries.now n zones.now.least zones.now.most at.now }
+    ensures { Visited entries.now n zones.now.least zones.now.most p cells.old.reach cells.old.bad cells.new.reach cells.new.bad }
 {
-    let w = wide(at[p]);
-    if n <= w {
-        return;
-    }
-    meet(cells, least, most, reach, bad, w);
-}
-
-// All places in order. How far a cell reaches is at first the last start of a read of zero.
-fn sweep(
-    kinds: &[u8; ENTRY_LIMIT],
-    cells: &[u8; ENTRY_LIMIT],
-    values: &[u32; ENTRY_LIMIT],
-    starts: &[u16; ENTRY_LIMIT],
-    n: usize,
-    least: &[u16; ENTRY_LIMIT],
-    most: &[u16; ENTRY_LIMIT],
-    at: &[u16; PLACES],
-    reach: &mut [u16; Cell::LIMIT],
-    bad: &mut [u8; Cell::LIMIT],
-)
-    requires { Sweepable (arrays kinds.now cells.now values.now starts.now) n least.now most.now at.now × (length reach.old ≡ cell_limit) × (length bad.old ≡ cell_limit) }
-    ensures { Swept (arrays kinds.now cells.now values.now starts.now) n least.now most.now
-        reach.old bad.old bad.new }
-{
-    let mut p: usize = 0;
-    while p < n {
-        visit(
-            kinds,
-            cells,
-            values,
-            starts,
-            n,
-            least,
-            most,
-            at,
-            &mut *reach,
-            &mut *bad,
-            p,
-        );
-        p += 1;
+    let w = at[p] as usize;
+    if w < n {
+        cells.meet(entries, zones, w);
     }
 }
 
-// The lowest marked cell, the limit of cells if none is.
-fn lowest(bad: &[u8; Cell::LIMIT]) -> u8
-    ensures { LowestIn bad.now result }
+// All places in order.
+fn sweep(entries: &Entries, n: usize, zones: &Zones, at: &[u16; PLACES], cells: &mut Cells)
+    requires { Sweepable entries.now n zones.now.least zones.now.most at.now × (length cells.old.reach ≡ cell_limit) × (length cells.old.bad ≡ cell_limit) }
+    ensures { Swept entries.now n zones.now.least zones.now.most cells.old.reach cells.old.bad cells.new.bad }
 {
-    let mut c: u8 = 0;
-    while c < NO_CELL {
-        if bad[wide_cell(c)] != 0 {
-            return c;
-        }
-        c += 1;
+    for p in 0..n {
+        visit(entries, n, zones, at, cells, p);
     }
-    NO_CELL
 }
 
 // The clusters in the order of their places, and what the sweep over them marks.
-fn order(
-    kinds: &[u8; ENTRY_LIMIT],
-    cells: &[u8; ENTRY_LIMIT],
-    values: &[u32; ENTRY_LIMIT],
-    starts: &[u16; ENTRY_LIMIT],
-    n: usize,
-    least: &[u16; ENTRY_LIMIT],
-    most: &[u16; ENTRY_LIMIT],
-    reach: &mut [u16; Cell::LIMIT],
-    bad: &mut [u8; Cell::LIMIT],
-)
-    requires { Scattering (arrays kinds.now cells.now values.now starts.now) n least.now most.now × (length reach.old ≡ cell_limit) × (length bad.old ≡ cell_limit) }
-    ensures { Swept (arrays kinds.now cells.now values.now starts.now) n least.now most.now
-        reach.old bad.old bad.new }
+fn order(entries: &Entries, n: usize, zones: &Zones, cells: &mut Cells)
+    requires { Scattering entries.now n zones.now.least zones.now.most × (length cells.old.reach ≡ cell_limit) × (length cells.old.bad ≡ cell_limit) }
+    ensures { Swept entries.now n zones.now.least zones.now.most cells.old.reach cells.old.bad cells.new.bad }
 {
     let mut at = [FAR; PLACES];
-    scatter(kinds, cells, values, starts, n, least, most, &mut at);
-    sweep(
-        kinds, cells, values, starts, n, least, most, &at, reach, bad,
-    );
+    scatter(entries, n, zones, &mut at);
+    sweep(entries, n, zones, &at, cells);
 }
 
-// The lowest cell whose operations have no lawful order, the limit of cells if there is none.
-fn settle(
-    kinds: &[u8; ENTRY_LIMIT],
-    cells: &[u8; ENTRY_LIMIT],
-    values: &[u32; ENTRY_LIMIT],
-    starts: &[u16; ENTRY_LIMIT],
-    n: usize,
-    head: &[u16; CHAINS],
-    next: &[u16; ENTRY_LIMIT],
-) -> u8
-    requires { Ready (arrays kinds.now cells.now values.now starts.now) n head.now next.now }
-    ensures { Settles (arrays kinds.now cells.now values.now starts.now) n result }
+// The lowest cell whose operations have no lawful order.
+fn settle(entries: &Entries, n: usize, table: &Table) -> Option<Cell>
+    requires { Ready entries.now n table.now.head table.now.next }
+    ensures { Settles entries.now n (cell_or_limit result) × IfSome result (λ c. c.0 < cell_limit) }
 {
-    let mut least = [FAR; ENTRY_LIMIT];
-    let mut most = [0u16; ENTRY_LIMIT];
-    let mut zero = [0u16; Cell::LIMIT];
-    let mut bad = [0u8; Cell::LIMIT];
-    own_numbers(n, &mut most);
-    take_ends(
-        kinds, cells, values, starts, n, head, next, &mut least, &mut most, &mut zero, &mut bad,
-    );
-    order(
-        kinds, cells, values, starts, n, &least, &most, &mut zero, &mut bad,
-    );
-    lowest(&bad)
+    let mut zones = Zones {
+        least: [FAR; ENTRY_LIMIT],
+        most: [0; ENTRY_LIMIT],
+    };
+    let mut cells = Cells {
+        reach: [0; Cell::LIMIT],
+        bad: [0; Cell::LIMIT],
+    };
+    zones.own_numbers(n);
+    take_ends(entries, n, table, &mut zones, &mut cells);
+    order(entries, n, &zones, &mut cells);
+    cells.lowest()
 }
 
 // The verdict on paired entries: 29, or whether the cells are lawful.
-fn judge_paired(
-    kinds: &[u8; ENTRY_LIMIT],
-    cells: &[u8; ENTRY_LIMIT],
-    values: &[u32; ENTRY_LIMIT],
-    starts: &[u16; ENTRY_LIMIT],
-    n: usize,
-) -> Verdict
-    requires { Fit (arrays kinds.now cells.now values.now starts.now) n }
-    ensures { JudgesIn (arrays kinds.now cells.now values.now starts.now) n result }
+fn judge_paired(entries: &Entries, n: usize) -> Verdict
+    requires { Fit entries.now n }
+    ensures { JudgesIn entries.now n result }
 {
-    let mut head = [0u16; CHAINS];
-    let mut next = [0u16; ENTRY_LIMIT];
-    match chains::link(kinds, cells, values, n, &mut head, &mut next) {
-        Linked::Again(p) => Verdict::Refused(29, p),
-        Linked::All => {
-            let c = settle(kinds, cells, values, starts, n, &head, &next);
-            if c < NO_CELL {
-                return Verdict::Unlawful(Cell(c));
-            }
-            Verdict::Lawful
-        }
+    let mut table = Table {
+        head: [0; CHAINS],
+        next: [0; ENTRY_LIMIT],
+    };
+    if let Some(p) = table.link(entries, n) {
+        return Verdict::Refused(Refusal::AskedAgain.number(), p);
+    }
+    match settle(entries, n, &table) {
+        Some(c) => Verdict::Unlawful(c),
+        None => Verdict::Lawful,
     }
 }
 
@@ -479,12 +310,14 @@ fn judge_paired(
 pub fn judge(s: &[u8]) -> Verdict
     ensures { Judges (taken_for s.now) result }
 {
-    let mut kinds = [0u8; ENTRY_LIMIT];
-    let mut cells = [0u8; ENTRY_LIMIT];
-    let mut values = [0u32; ENTRY_LIMIT];
-    let mut starts = [0u16; ENTRY_LIMIT];
-    match pairs::pair_up(s, &mut kinds, &mut cells, &mut values, &mut starts) {
-        Answer::Refused(k, n) => Verdict::Refused(k, n),
-        Answer::All(n) => judge_paired(&kinds, &cells, &values, &starts, n),
+    let mut entries = Entries {
+        kinds: [0; ENTRY_LIMIT],
+        cells: [0; ENTRY_LIMIT],
+        values: [0; ENTRY_LIMIT],
+        starts: [0; ENTRY_LIMIT],
+    };
+    match pairs::pair_up(s, &mut entries) {
+        Ok(n) => judge_paired(&entries, n),
+        Err((k, n)) => Verdict::Refused(k.number(), n),
     }
 }

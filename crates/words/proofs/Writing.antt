@@ -1,102 +1,71 @@
 -- Words that are written one after another.
-use Prim.Native.Nat.{ℕ, suc, ◌+◌, ◌≤◌, ◌<◌}
+use Prim.Native.Nat.{ℕ, suc, ◌+◌, ◌≤◌}
+use Rattle.std.proofs.Common.{append_assoc, drop-drop}
 use mathlib.Core.Path.{◌≡◌, refl, ap, sym, ◌∙◌}
+use mathlib.Core.Bool.{Bool, true, false}
 use mathlib.Core.List.{List, [], ◌∷◌, ◌++◌}
 use native.Mathlib.Omega.{arith}
-use lib.ListN.{length, get_or, set, take}
-use lib.Seq.{sets, length-sets, take-suc, take_all, length-take-le}
-use Rattle.method.specs.declared.InSlot.TheVariants.{Full}
-use Rattle.method.specs.declared.Message.{Message}
+use borrow.Rule.Slice.PartMut.{put_mid}
+use lib.ListN.{length, get_or, set, take, drop}
+use lib.Seq.{sets}
+use Rattle.std.specs.Int.{from_bool}
+use Rattle.std.proofs.lemmas.List.Edits.{sets-eq}
 use Rattle.method.specs.declared.Party.{Party}
-use Rattle.rack.specs.declared.Rack.{Rack}
-use Rattle.method.specs.declared.Operation.{Operation}
-use Rattle.layout.specs.laws.PlaceLaws.{first_long}
-use Rattle.layout.proofs.theorems.Trip.{open_long}
-use Rattle.layout.specs.Writing.{open_words, phase_word, held_words, operation_words, work_words, flag, party_words, body_kind, body_words, slot_words}
-use Rattle.layout.specs.Writing.{put_firsts, head_of, parties_put, pairs_put, wire_put, record_put, written_of}
+use Rattle.layout.specs.Writing.{work_words, flag, party_words, put_firsts}
+
+-- some words that are copied over those at a place
+pub placed : (d ys : List ℕ) (at k : ℕ) → length ys ≡ k → at + k ≤ length d → put_mid at k d ys ≡ sets d at ys
+placed d ys at k e h =
+    ap (λ (r : List ℕ). take at d ++ (ys ++ r)) (drop-drop k at d)
+    ∙ ap (λ (j : ℕ). take at d ++ (ys ++ drop (at + j) d)) (sym e)
+    ∙ sym (append_assoc (take at d) ys (drop (at + length ys) d))
+    ∙ sym (sets-eq ys d at (omega arith))
 
 -- some and then some more
 pub sets_more : (d : List ℕ) (at : ℕ) (xs ys : List ℕ) → sets (sets d at xs) (at + length xs) ys ≡ sets d at (xs ++ ys)
 sets_more d at [] ys = let e : at + 0 ≡ at = omega arith in rw e
 sets_more d at (x ∷ xs) ys = let e : at + suc (length xs) ≡ suc at + length xs = omega arith in rw e (sets_more (set d at x) (suc at) xs ys)
 
--- the same where the place is known by an equation
-pub sets_then : (d e o : List ℕ) (at next n : ℕ) (xs ys : List ℕ) → e ≡ sets d at xs → o ≡ sets e next ys → length xs ≡ n → next ≡ at + n → o ≡ sets d at (xs ++ ys)
-sets_then d e o at next n xs ys p q l k =
-    q ∙ ap (λ (s : List ℕ). sets s next ys) p ∙ ap (λ (i : ℕ). sets (sets d at xs) i ys) (k ∙ ap (λ (i : ℕ). at + i) (sym l)) ∙ sets_more d at xs ys
-
--- the first i words of xs are written
-pub record Putting (d : List ℕ) (at : ℕ) (xs e : List ℕ) (i : ℕ) : Type 0 where
-  pub most : i ≤ length xs
-  pub list : e ≡ sets d at (take i xs)
-
-pub puts : (d : List ℕ) (at : ℕ) (xs : List ℕ) → Putting d at xs d 0
-puts d at xs = record { most = omega arith; list = refl }
-
-pub puts_long : (d : List ℕ) (at : ℕ) (xs e : List ℕ) (i : ℕ) → Putting d at xs e i → length e ≡ length d
-puts_long d at xs e i g = ap length g.list ∙ length-sets d at (take i xs)
-
-pub puts_on : (d : List ℕ) (at : ℕ) (xs e : List ℕ) (i : ℕ) → Putting d at xs e i → i < length xs → Putting d at xs (set e (at + i) (get_or xs i 0)) (i + 1)
-puts_on d at xs e i g h =
-    let s : i + 1 ≡ suc i = omega arith in
-    let l : length (take i xs) ≡ i = length-take-le i xs (omega arith) in
-    record {
-      most = omega arith;
-      list =
-          sets_then d e (set e (at + i) (get_or xs i 0)) at (at + i) i (take i xs) (get_or xs i 0 ∷ []) g.list refl l refl
-          ∙ ap (sets d at) (sym (take-suc xs i 0 h) ∙ ap (λ (k : ℕ). take k xs) (sym s));
-    }
-
-pub puts_end : (d : List ℕ) (at : ℕ) (xs e : List ℕ) (i : ℕ) → Putting d at xs e i → length xs ≤ i → e ≡ sets d at xs
-puts_end d at xs e i g h = g.list ∙ ap (sets d at) (take_all i xs h)
-
--- the first i parts are written
-pub record Storing (place : ℕ → ℕ) (f : ℕ → List ℕ) (n : ℕ) (d e : List ℕ) (i : ℕ) : Type 0 where
-  pub most : i ≤ n
-  pub list : e ≡ put_firsts i place f d
-
-pub stores : (place : ℕ → ℕ) (f : ℕ → List ℕ) (n : ℕ) (d : List ℕ) → Storing place f n d d 0
-unfolding put_firsts
-stores place f n d = record { most = omega arith; list = refl }
-
-pub stores_long : (place : ℕ → ℕ) (f : ℕ → List ℕ) (n : ℕ) (d e : List ℕ) (i : ℕ) → Storing place f n d e i → length e ≡ length d
-stores_long place f n d e i g = ap length g.list ∙ first_long i place f d
-
-pub stores_on : (place : ℕ → ℕ) (f : ℕ → List ℕ) (n : ℕ) (d e o : List ℕ) (i : ℕ) → Storing place f n d e i → i < n → o ≡ sets e (place i) (f i)
-    → Storing place f n d o (i + 1)
-unfolding put_firsts
-stores_on place f n d e o i g h p =
-    let s : i + 1 ≡ suc i = omega arith in
-    record {
-      most = omega arith;
-      list = p ∙ ap (λ (w : List ℕ). sets w (place i) (f i)) g.list ∙ ap (λ (k : ℕ). put_firsts k place f d) (sym s);
-    }
-
-pub stores_end : (place : ℕ → ℕ) (f : ℕ → List ℕ) (n : ℕ) (d e : List ℕ) (i : ℕ) → Storing place f n d e i → n ≤ i → e ≡ put_firsts n place f d
-stores_end place f n d e i g h = let k : i ≡ n = omega (arith, g.most) in g.list ∙ ap (λ (j : ℕ). put_firsts j place f d) k
-
 -- part after part
-pub written : (r : Rack) (d a b c e : List ℕ) → a ≡ head_of r d → b ≡ pairs_put r (parties_put r a) → c ≡ wire_put r b → e ≡ record_put r c → e ≡ written_of r d
-unfolding written_of
-written r d a b c e p q s t = t ∙ ap (record_put r) (s ∙ ap (wire_put r) (q ∙ ap (λ (w : List ℕ). pairs_put r (parties_put r w)) p))
+pub put_none : (place : ℕ → ℕ) (f : ℕ → List ℕ) (d : List ℕ) → d ≡ put_firsts 0 place f d
+unfolding put_firsts
+put_none place f d = refl
 
--- what stands after the two parts of an open operation, a client or a message
-pub operation_written : (d e o : List ℕ) (at k : ℕ) (w : Operation) → k ≡ phase_word w.phase
-    → e ≡ sets d at (open_words k w.cell w.goal w.set) → o ≡ sets e (at + 5) (held_words w.phase) → o ≡ sets d at (operation_words w)
-unfolding operation_words
-operation_written d e o at k w ek p q =
-    sets_then d e o at (at + 5) 5 (open_words k w.cell w.goal w.set) (held_words w.phase) p q (open_long k w.cell w.goal w.set) refl
-    ∙ ap (λ (j : ℕ). sets d at (open_words j w.cell w.goal w.set ++ held_words w.phase)) ek
+pub put_more : (place : ℕ → ℕ) (f : ℕ → List ℕ) (d e o xs : List ℕ) (i : ℕ) → e ≡ put_firsts i place f d → xs ≡ f i → o ≡ sets e (place i) xs
+    → o ≡ put_firsts (i + 1) place f d
+unfolding put_firsts
+put_more place f d e o xs i q t p =
+    let s : i + 1 ≡ suc i = omega arith in
+    p ∙ ap (λ (w : List ℕ). sets w (place i) xs) q ∙ ap (λ (w : List ℕ). sets (put_firsts i place f d) (place i) w) t
+    ∙ ap (λ (k : ℕ). put_firsts k place f d) (sym s)
 
-pub party_written : (d e o : List ℕ) (at : ℕ) (p : Party) (s : ℕ) → s ≡ flag p.stopped → e ≡ sets d at (s ∷ p.op ∷ [])
-    → o ≡ sets e (at + 2) (work_words p.work) → o ≡ sets d at (party_words p)
+-- the words of arrays of a known length, one by one
+pub three : (xs : List ℕ) → length xs ≡ 3 → get_or xs 0 0 ∷ get_or xs 1 0 ∷ get_or xs 2 0 ∷ [] ≡ xs
+three [] e = absurd (omega arith)
+three (a ∷ []) e = absurd (omega arith)
+three (a ∷ b ∷ []) e = absurd (omega arith)
+three (a ∷ b ∷ c ∷ []) e = refl
+three (a ∷ b ∷ c ∷ d ∷ xs) e = absurd (omega arith)
+
+pub five : (xs ys : List ℕ) → length xs ≡ 5 → get_or xs 0 0 ∷ get_or xs 1 0 ∷ get_or xs 2 0 ∷ get_or xs 3 0 ∷ get_or xs 4 0 ∷ ys ≡ xs ++ ys
+five [] ys e = absurd (omega arith)
+five (a ∷ []) ys e = absurd (omega arith)
+five (a ∷ b ∷ []) ys e = absurd (omega arith)
+five (a ∷ b ∷ c ∷ []) ys e = absurd (omega arith)
+five (a ∷ b ∷ c ∷ d ∷ []) ys e = absurd (omega arith)
+five (a ∷ b ∷ c ∷ d ∷ f ∷ []) ys e = refl
+five (a ∷ b ∷ c ∷ d ∷ f ∷ g ∷ xs) ys e = absurd (omega arith)
+
+-- what stands after the two parts of a client
+flag_of : (b : Bool) → from_bool b ≡ flag b
+unfolding flag
+flag_of true = refl
+flag_of false = refl
+
+pub party_written : (d e o xs : List ℕ) (at : ℕ) (p : Party) (s n : ℕ) → s ≡ from_bool p.stopped → n ≡ p.op → xs ≡ work_words p.work
+    → e ≡ sets d at (s ∷ n ∷ []) → o ≡ sets e (at + 2) xs → o ≡ sets d at (party_words p)
 unfolding party_words
-party_written d e o at p s es q t =
-    sets_then d e o at (at + 2) 2 (s ∷ p.op ∷ []) (work_words p.work) q t refl refl ∙ ap (λ (k : ℕ). sets d at ((k ∷ p.op ∷ []) ++ work_words p.work)) es
-
-pub message_written : (d e o : List ℕ) (at : ℕ) (m : Message) (k : ℕ) → k ≡ body_kind m.body
-    → e ≡ sets d at (1 ∷ k ∷ m.client.0 ∷ m.replica.0 ∷ m.cell.0 ∷ m.op ∷ []) → o ≡ sets e (at + 6) (body_words m.body) → o ≡ sets d at (slot_words (Full m))
-unfolding slot_words
-message_written d e o at m k ek q t =
-    sets_then d e o at (at + 6) 6 (1 ∷ k ∷ m.client.0 ∷ m.replica.0 ∷ m.cell.0 ∷ m.op ∷ []) (body_words m.body) q t refl refl
-    ∙ ap (λ (j : ℕ). sets d at ((1 ∷ j ∷ m.client.0 ∷ m.replica.0 ∷ m.cell.0 ∷ m.op ∷ []) ++ body_words m.body)) ek
+party_written d e o xs at p s n es en ex q t =
+    let f : s ≡ flag p.stopped = es ∙ flag_of p.stopped in
+    let parts : (s ∷ n ∷ []) ++ xs ≡ party_words p = cc in
+    t ∙ ap (λ (r : List ℕ). sets r (at + 2) xs) q ∙ sets_more d at (s ∷ n ∷ []) xs ∙ ap (λ (r : List ℕ). sets d at r) parts

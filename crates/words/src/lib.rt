@@ -1,29 +1,29 @@
 // A rack in lent memory: words of 32 bits, laid out as crate layout says, and schedules run on it.
 #![tactic(auto)]
 
-ghost use Rattle.std.specs.Prelude.{◌≡◌, true, cond, ◌+◌, ◌*◌, ◌≤◌, ◌<◌, length, get_or, replicate, ltb};
+ghost use Rattle.std.specs.Prelude.{◌≡◌, true, cond, ◌+◌, ◌≤◌, ◌<◌, length, get_or, ltb, Some};
 ghost use Rattle.std.proofs.lemmas.List.Edits.{sets};
 ghost use Rattle.record.specs.Entry.{client_limit};
 ghost use Rattle.record.specs.Record.{entry_limit};
-ghost use Rattle.rows.specs.Row.{entry_of, row_of};
+ghost use Rattle.rows.specs.Row.{entry_of};
 ghost use Rattle.stamps.specs.Stamp.{fresh_pair};
-ghost use Rattle.rack.specs.Places.{slot_limit, pair_limit, idle, held_in};
+ghost use Rattle.rack.specs.Places.{replica_limit, slot_limit, pair_limit};
 ghost use Rattle.rack.specs.Sound.{all_below, sound_of};
 ghost use Rattle.layout.specs.Layout.{party_size, work_size, pair_size, slot_size, entry_size, word_count, party_place, pair_place, slot_place, entry_place};
 ghost use Rattle.layout.specs.Layout.{stray_number, op_limit, power_limit, word, firsts};
 ghost use Rattle.layout.specs.Reading.{byte_of, set_of, pair_in, goal_of, holding_of, phase_of, operation_of, operation_in, work_in, party_known, stray_party, party_in};
 ghost use Rattle.layout.specs.Reading.{body_of, message_known, stray_held, full_in, held_of, slot_in};
 ghost use Rattle.layout.specs.Reading.{entry_known, line_known, line_in, lines_in, entry_count, count_in, power_of, settings_in, rack_of};
-ghost use Rattle.layout.specs.Writing.{pair_words, no_pair, phase_word, holding_words, held_words, open_words, operation_words, work_words, flag, party_words};
-ghost use Rattle.layout.specs.Writing.{body_kind, body_words, slot_words, put_firsts, head_of, parties_put, pair_written, pairs_put, entry_in, written_of};
+ghost use Rattle.layout.specs.Writing.{pair_words, phase_word, holding_words, held_words, open_words, operation_words, work_words, party_words};
+ghost use Rattle.layout.specs.Writing.{body_kind, body_words, slot_words, head_of, parties_put, pair_written, pairs_put, wire_put, record_put, written_of};
 ghost use Rattle.layout.specs.Calls.{made_outcome, run_outcome};
 
 use layout::WordsAnswer;
-use method::{Body, Goal, Holding, InSlot, Message, Operation, Party, Phase, Work};
+use method::{Body, Goal, Message, Operation, Party, Phase};
 use rack::{Line, Rack, Settings, Slot};
 use record::{Cell, Client, Entry, Replica};
+use refusal::Refusal;
 use stamps::{Pair, Stamp};
-
 // How many words the head, a client, a pair, a slot and an entry take.
 const HEAD_WORDS: usize = 5;
 
@@ -38,6 +38,9 @@ const ENTRY_WORDS: usize = 4;
 // How many words say what a client is at: all of its own but two.
 const WORK_WORDS: usize = PARTY_WORDS - 2;
 
+// How many of those say what its operation is, beside the pair that it holds.
+const OPEN_WORDS: usize = WORK_WORDS - PAIR_WORDS;
+
 // Where the clients, the pairs, the slots and the entries begin, each where those before them end; and how many words a rack takes.
 const PARTIES_AT: usize = HEAD_WORDS;
 
@@ -49,14 +52,10 @@ const ENTRIES_AT: usize = SLOTS_AT + SLOT_WORDS * Rack::SLOTS;
 
 pub const WORDS: usize = ENTRIES_AT + ENTRY_WORDS * Rack::ENTRIES;
 
-// Limits of what a word holds: a byte, a set, an operation number, a cell's number, a count of entries, the replicas' power.
-const BYTE_LIMIT: u32 = u8::MAX as u32 + 1;
+// Limits of what a word holds: an operation number, a client's number, a cell's, a count of entries, the replicas' power.
+const OP_LIMIT: u32 = Party::LAST_OP as u32 + 1;
 
-const SET_LIMIT: u32 = u16::MAX as u32 + 1;
-
-const LAST_OP: u32 = Party::LAST_OP as u32;
-
-const OP_LIMIT: u32 = LAST_OP + 1;
+const CLIENT_LIMIT: u32 = Client::LIMIT as u32;
 
 const CELL_LIMIT: u32 = Cell::LIMIT as u32;
 
@@ -76,90 +75,74 @@ const STRAY: u8 = u8::MAX;
 fn byte(word: u32) -> u8
     ensures { result ≡ byte_of word }
 {
-    if word < BYTE_LIMIT {
-        return word as u8;
-    }
-    STRAY
-}
-
-fn byte_at(words: &[u32], at: usize) -> u8
-    requires { at < length words.now }
-    ensures { result ≡ byte_of (word words.now at) }
-{
-    byte(words[at])
+    u8::try_from(word).unwrap_or(STRAY)
 }
 
 fn set_of(word: u32) -> u16
     ensures { result ≡ set_of word }
 {
-    if word < SET_LIMIT {
-        return word as u16;
-    }
-    u16::MAX
+    u16::try_from(word).unwrap_or(u16::MAX)
 }
 
-fn pair_at(words: &[u32], at: usize) -> Pair
-    requires { at + pair_size ≤ length words.now }
+fn pair_at(words: &[u32; WORDS], at: usize) -> Pair
+    requires { at + pair_size ≤ word_count }
     ensures { result ≡ pair_in words.now at }
 {
-    let rank = byte_at(words, at + 1);
-    let value = number::signed(words[at + 2]);
-    let stamp = Stamp {
-        number: words[at],
-        rank: rank,
-    };
     Pair {
-        stamp: stamp,
-        value: value,
+        stamp: Stamp {
+            number: words[at],
+            rank: byte(words[at + 1]),
+        },
+        value: number::signed(words[at + 2]),
     }
 }
 
+#[tactic(auto, unfolding(layout::specs::Reading::goal_of))]
 fn goal_of(goal: u32, value: u32) -> Goal
     ensures { result ≡ goal_of goal value }
 {
     if goal == 0 {
-        return Goal::Read;
+        Goal::Read
+    } else {
+        Goal::Write(number::signed(value))
     }
-    let v = number::signed(value);
-    Goal::Write(v)
 }
 
 // Nothing is held while nobody has told.
-fn holding_of(set: u16, pair: Pair) -> Holding
+#[tactic(auto, unfolding(layout::specs::Reading::holding_of))]
+fn holding_of(set: u16, pair: Pair) -> Option<Pair>
     ensures { result ≡ holding_of set pair }
 {
-    if set == 0 {
-        return Holding::NoPair;
-    }
-    Holding::Holds(pair)
+    if set == 0 { None } else { Some(pair) }
 }
 
+#[tactic(auto, unfolding(layout::specs::Reading::phase_of))]
 fn phase_of(phase: u32, set: u16, pair: Pair) -> Phase
     ensures { result ≡ phase_of phase set pair }
 {
     if phase == 1 {
-        let held = holding_of(set, pair);
-        return Phase::Asking(held);
+        Phase::Asking(holding_of(set, pair))
+    } else {
+        Phase::Keeping(pair)
     }
-    Phase::Keeping(pair)
 }
 
+#[tactic(auto, unfolding(layout::specs::Reading::operation_of))]
 fn operation_of(phase: u32, cell: u32, goal: Goal, set: u32, pair: Pair) -> Operation
     ensures { result ≡ operation_of phase cell goal set pair }
 {
-    let x = byte(cell);
-    let s = set_of(set);
-    let now = phase_of(phase, s, pair);
+    let set = set_of(set);
     Operation {
-        cell: Cell(x),
-        goal: goal,
-        phase: now,
-        set: s,
+        cell: Cell(byte(cell)),
+        goal,
+        phase: phase_of(phase, set, pair),
+        set,
     }
 }
 
-fn operation_at(words: &[u32], at: usize) -> Operation
-    requires { at + work_size ≤ length words.now }
+#[tactic(auto, unfolding(layout::specs::Reading::operation_in))]
+fn operation_at(words: &[u32; WORDS], at: usize) -> Operation
+    requires { at + work_size ≤ word_count }
     ensures { result ≡ operation_in words.now at }
 {
     let goal = goal_of(words[at + 2], words[at + 3]);
@@ -167,104 +150,81 @@ fn operation_at(words: &[u32], at: usize) -> Operation
     operation_of(words[at], words[at + 1], goal, words[at + 4], pair)
 }
 
-fn work_at(words: &[u32], at: usize) -> Work
-    requires { at + work_size ≤ length words.now }
+#[tactic(auto, unfolding(layout::specs::Reading::work_in))]
+fn work_at(words: &[u32; WORDS], at: usize) -> Option<Operation>
+    requires { at + work_size ≤ word_count }
     ensures { result ≡ work_in words.now at }
 {
     if words[at] == 0 {
-        return Work::Idle;
+        None
+    } else {
+        Some(operation_at(words, at))
     }
-    let operation = operation_at(words, at);
-    Work::Open(operation)
 }
 
+#[tactic(auto, unfolding(layout::specs::Reading::party_known))]
 fn party_known(stopped: u32, op: u32, phase: u32, goal: u32) -> bool
     ensures { result ≡ party_known stopped op phase goal }
 {
-    if 1 < stopped {
-        return false;
-    }
-    if LAST_OP < op {
-        return false;
-    }
-    if 2 < phase {
-        return false;
-    }
-    if phase == 0 {
-        return true;
-    }
-    goal < 2
+    stopped < 2 && op < OP_LIMIT && phase < 3 && (phase == 0 || goal < 2)
 }
 
 // A client that no rack has: words that are none are read as it.
 fn stray_party() -> Party
     ensures { result ≡ stray_party }
 {
-    let stamp = Stamp { number: 0, rank: 0 };
-    let pair = Pair {
-        stamp: stamp,
-        value: 0,
-    };
-    let operation = Operation {
-        cell: Cell(STRAY),
-        goal: Goal::Read,
-        phase: Phase::Keeping(pair),
-        set: 0,
-    };
     Party {
         stopped: false,
         op: 0,
-        work: Work::Open(operation),
+        work: Some(Operation {
+            cell: Cell(STRAY),
+            goal: Goal::Read,
+            phase: Phase::Keeping(stamps::fresh_pair()),
+            set: 0,
+        }),
     }
 }
 
-fn party_at(words: &[u32], at: usize) -> Party
-    requires { at + party_size ≤ length words.now }
+#[tactic(auto, unfolding(layout::specs::Reading::party_in))]
+fn party_at(words: &[u32; WORDS], at: usize) -> Party
+    requires { at + party_size ≤ word_count }
     ensures { result ≡ party_in words.now at }
 {
     if party_known(words[at], words[at + 1], words[at + 2], words[at + 4]) {
-        let work = work_at(words, at + 2);
-        return Party {
+        Party {
             stopped: words[at] == 1,
             op: words[at + 1] as u16,
-            work: work,
-        };
+            work: work_at(words, at + 2),
+        }
+    } else {
+        stray_party()
     }
-    stray_party()
 }
 
+#[tactic(auto, unfolding(layout::specs::Reading::body_of))]
 fn body_of(body: u32, pair: Pair) -> Body
     ensures { result ≡ body_of body pair }
 {
-    if body == 0 {
-        return Body::Ask;
+    match body {
+        0 => Body::Ask,
+        1 => Body::Tell(pair),
+        2 => Body::Keep(pair),
+        _ => Body::Kept,
     }
-    if body == 1 {
-        return Body::Tell(pair);
-    }
-    if body == 2 {
-        return Body::Keep(pair);
-    }
-    Body::Kept
 }
 
+#[tactic(auto, unfolding(layout::specs::Reading::message_known))]
 fn message_known(mark: u32, body: u32, op: u32) -> bool
     ensures { result ≡ message_known mark body op }
 {
-    if mark != 1 {
-        return false;
-    }
-    if 3 < body {
-        return false;
-    }
-    op < OP_LIMIT
+    mark == 1 && body < 4 && op < OP_LIMIT
 }
 
 // A message that no rack has: words that are none are read as it.
-fn stray_held() -> InSlot
+fn stray_held() -> Option<Message>
     ensures { result ≡ stray_held }
 {
-    InSlot::Full(Message {
+    Some(Message {
         client: Client(STRAY),
         replica: Replica(0),
         cell: Cell(0),
@@ -273,301 +233,233 @@ fn stray_held() -> InSlot
     })
 }
 
-fn full_at(words: &[u32], at: usize) -> InSlot
-    requires { (at + slot_size ≤ length words.now) × (get_or words.now (at + 5) 0 < op_limit) }
+#[tactic(auto, unfolding(layout::specs::Reading::full_in))]
+fn full_at(words: &[u32; WORDS], at: usize) -> Option<Message>
+    requires { (at + slot_size ≤ word_count) × (word words.now (at + 5) < op_limit) }
     ensures { result ≡ full_in words.now at }
 {
-    let client = byte_at(words, at + 2);
-    let replica = byte_at(words, at + 3);
-    let cell = byte_at(words, at + 4);
-    let pair = pair_at(words, at + 6);
-    let body = body_of(words[at + 1], pair);
-    InSlot::Full(Message {
-        client: Client(client),
-        replica: Replica(replica),
-        cell: Cell(cell),
+    Some(Message {
+        client: Client(byte(words[at + 2])),
+        replica: Replica(byte(words[at + 3])),
+        cell: Cell(byte(words[at + 4])),
         op: words[at + 5] as u16,
-        body: body,
+        body: body_of(words[at + 1], pair_at(words, at + 6)),
     })
 }
 
-fn held_at(words: &[u32], at: usize) -> InSlot
-    requires { at + slot_size ≤ length words.now }
+#[tactic(auto, unfolding(layout::specs::Reading::held_of))]
+fn held_at(words: &[u32; WORDS], at: usize) -> Option<Message>
+    requires { at + slot_size ≤ word_count }
     ensures { result ≡ held_of words.now at }
 {
     if words[at] == 0 {
-        return InSlot::Empty;
+        None
+    } else if message_known(words[at], words[at + 1], words[at + 5]) {
+        full_at(words, at)
+    } else {
+        stray_held()
     }
-    if message_known(words[at], words[at + 1], words[at + 5]) {
-        return full_at(words, at);
-    }
-    stray_held()
 }
 
+#[tactic(auto, unfolding(rows::specs::Row::entry_of))]
 fn entry_of(kind: u32, client: Client, cell: Cell, value: u32) -> Entry
     ensures { result ≡ entry_of kind client.0 cell.0 value }
 {
-    if kind == 0 {
-        return Entry::ReadAsked(client, cell);
+    match kind {
+        0 => Entry::ReadAsked(client, cell),
+        1 => Entry::WriteAsked(client, cell, number::signed(value)),
+        2 => Entry::Told(client, number::signed(value)),
+        _ => Entry::Done(client),
     }
-    let v = number::signed(value);
-    if kind == 1 {
-        return Entry::WriteAsked(client, cell, v);
-    }
-    if kind == 2 {
-        return Entry::Told(client, v);
-    }
-    Entry::Done(client)
 }
 
-fn line_at(words: &[u32], at: usize) -> Line
-    requires { at + entry_size ≤ length words.now }
+#[tactic(auto, unfolding(layout::specs::Reading::line_in))]
+fn line_at(words: &[u32; WORDS], at: usize) -> Line
+    requires { at + entry_size ≤ word_count }
     ensures { result ≡ line_in words.now at }
 {
-    let client = byte_at(words, at + 1);
-    let cell = byte_at(words, at + 2);
-    let entry = entry_of(words[at], Client(client), Cell(cell), words[at + 3]);
-    Line { entry: entry }
+    let client = Client(byte(words[at + 1]));
+    let cell = Cell(byte(words[at + 2]));
+    Line {
+        entry: entry_of(words[at], client, cell, words[at + 3]),
+    }
 }
 
+#[tactic(auto, unfolding(layout::specs::Reading::entry_known))]
 fn entry_known(kind: u32, client: u32, cell: u32) -> bool
     ensures { result ≡ entry_known kind client cell }
 {
-    if 3 < kind {
-        return false;
-    }
-    if Client::LAST < client {
-        return false;
-    }
-    if 1 < kind {
-        return true;
-    }
-    cell < CELL_LIMIT
+    kind < 4 && client < CLIENT_LIMIT && (!(kind < 2) || cell < CELL_LIMIT)
 }
 
 // ---- reading each part
 
-fn parties_of(words: &[u32]) -> [Party; Client::LIMIT]
-    requires { length words.now ≡ word_count }
+fn parties_of(words: &[u32; WORDS]) -> [Party; Client::LIMIT]
     ensures { result ≡ firsts client_limit (λ i. party_in words.now (party_place i)) }
 {
-    let stray = stray_party();
-    let mut parties = [stray; Client::LIMIT];
-    let mut i: usize = 0;
-    while i < Client::LIMIT {
-        let party = party_at(words, PARTIES_AT + PARTY_WORDS * i);
-        parties[i] = party;
-        i += 1;
+    let mut parties = [stray_party(); Client::LIMIT];
+    for i in 0..Client::LIMIT {
+        parties[i] = party_at(words, PARTIES_AT + PARTY_WORDS * i);
     }
     parties
 }
 
-fn pairs_of(words: &[u32]) -> [Pair; Rack::PAIRS]
-    requires { length words.now ≡ word_count }
+fn pairs_of(words: &[u32; WORDS]) -> [Pair; Rack::PAIRS]
     ensures { result ≡ firsts pair_limit (λ i. pair_in words.now (pair_place i)) }
 {
-    let stamp = Stamp { number: 0, rank: 0 };
-    let fresh = Pair {
-        stamp: stamp,
-        value: 0,
-    };
-    let mut pairs = [fresh; Rack::PAIRS];
-    let mut i: usize = 0;
-    while i < Rack::PAIRS {
-        let pair = pair_at(words, PAIRS_AT + PAIR_WORDS * i);
-        pairs[i] = pair;
-        i += 1;
+    let mut pairs = [stamps::fresh_pair(); Rack::PAIRS];
+    for i in 0..Rack::PAIRS {
+        pairs[i] = pair_at(words, PAIRS_AT + PAIR_WORDS * i);
     }
     pairs
 }
 
-fn slot_at(words: &[u32], at: usize) -> Slot
-    requires { at + slot_size ≤ length words.now }
+#[tactic(auto, unfolding(layout::specs::Reading::slot_in))]
+fn slot_at(words: &[u32; WORDS], at: usize) -> Slot
+    requires { at + slot_size ≤ word_count }
     ensures { result ≡ slot_in words.now at }
 {
-    let held = held_at(words, at);
-    Slot { held: held }
+    Slot {
+        held: held_at(words, at),
+    }
 }
 
-fn wire_of(words: &[u32]) -> [Slot; Rack::SLOTS]
-    requires { length words.now ≡ word_count }
+fn wire_of(words: &[u32; WORDS]) -> [Slot; Rack::SLOTS]
     ensures { result ≡ firsts slot_limit (λ i. slot_in words.now (slot_place i)) }
 {
-    let nothing = InSlot::Empty;
-    let empty = Slot { held: nothing };
+    let empty = Slot { held: None };
     let mut wire = [empty; Rack::SLOTS];
-    let mut i: usize = 0;
-    while i < Rack::SLOTS {
-        let slot = slot_at(words, SLOTS_AT + SLOT_WORDS * i);
-        wire[i] = slot;
-        i += 1;
+    for i in 0..Rack::SLOTS {
+        wire[i] = slot_at(words, SLOTS_AT + SLOT_WORDS * i);
     }
     wire
 }
 
-fn lines_of(words: &[u32], n: usize) -> [Line; Rack::ENTRIES]
-    requires { (length words.now ≡ word_count) × (n ≤ entry_limit) }
+// Past the first n entries stands what a fresh rack has there.
+fn lines_of(words: &[u32; WORDS], n: usize) -> [Line; Rack::ENTRIES]
+    requires { n ≤ entry_limit }
     ensures { result ≡ lines_in n words.now }
 {
     let entry = Entry::Done(Client(0));
-    let line = Line { entry: entry };
-    let mut lines = [line; Rack::ENTRIES];
-    let mut i: usize = 0;
-    while i < n {
-        let next = line_at(words, ENTRIES_AT + ENTRY_WORDS * i);
-        lines[i] = next;
-        i += 1;
+    let blank = Line { entry };
+    let mut lines = [blank; Rack::ENTRIES];
+    for i in 0..n {
+        lines[i] = line_at(words, ENTRIES_AT + ENTRY_WORDS * i);
     }
     lines
 }
 
-fn lines_known(words: &[u32], n: usize) -> bool
-    requires { (length words.now ≡ word_count) × (n ≤ entry_limit) }
+#[tactic(auto, unfolding(layout::specs::Reading::line_known))]
+fn line_known(words: &[u32; WORDS], at: usize) -> bool
+    requires { at + entry_size ≤ word_count }
+    ensures { result ≡ line_known words.now at }
+{
+    entry_known(words[at], words[at + 1], words[at + 2])
+}
+
+fn lines_known(words: &[u32; WORDS], n: usize) -> bool
+    requires { n ≤ entry_limit }
     ensures { result ≡ all_below n (λ i. line_known words.now (entry_place i)) }
 {
-    let mut i: usize = 0;
-    while i < n {
-        let at = ENTRIES_AT + ENTRY_WORDS * i;
-        if !entry_known(words[at], words[at + 1], words[at + 2]) {
-            return false;
-        }
-        i += 1;
-    }
-    true
+    (0..n).all(|i| line_known(words, ENTRIES_AT + ENTRY_WORDS * i))
 }
 
 // How many entries there are to look at.
-fn count_of(words: &[u32]) -> usize
-    requires { length words.now ≡ word_count }
+#[tactic(auto, unfolding(layout::specs::Reading::entry_count))]
+fn count_of(words: &[u32; WORDS]) -> usize
     ensures { (result ≡ entry_count words.now) × (result ≤ entry_limit) }
 {
-    if words[4] <= MOST_ENTRIES {
-        return words[4] as usize;
-    }
-    Rack::ENTRIES
+    Rack::ENTRIES.min(words[4] as usize)
 }
 
 // A count that is no count is one more than a record holds.
-fn count_in(words: &[u32], n: usize) -> usize
-    requires { (length words.now ≡ word_count) × ((n ≡ entry_count words.now) × (n ≤ entry_limit)) }
+fn count_in(words: &[u32; WORDS], n: usize) -> usize
+    requires { (n ≡ entry_count words.now) × (n ≤ entry_limit) }
     ensures { result ≡ count_in words.now }
 {
     if MOST_ENTRIES < words[4] {
-        return NO_COUNT;
+        NO_COUNT
+    } else if lines_known(words, n) {
+        words[4] as usize
+    } else {
+        NO_COUNT
     }
-    if !lines_known(words, n) {
-        return NO_COUNT;
-    }
-    words[4] as usize
 }
 
+#[tactic(auto, unfolding(layout::specs::Reading::power_of))]
 fn power_of(word: u32) -> u16
     ensures { result ≡ power_of word }
 {
-    if word < POWER_LIMIT {
-        return word as u16;
-    }
-    0
+    if word < POWER_LIMIT { word as u16 } else { 0 }
 }
 
 fn replicas_of(replicas: u32, power: u32) -> u8
     ensures { result ≡ cond (ltb power power_limit) (byte_of replicas) stray_number }
 {
     if power < POWER_LIMIT {
-        return byte(replicas);
+        byte(replicas)
+    } else {
+        STRAY
     }
-    STRAY
 }
 
-fn settings_of(words: &[u32]) -> Settings
-    requires { length words.now ≡ word_count }
+#[tactic(auto, unfolding(layout::specs::Reading::settings_in))]
+fn settings_of(words: &[u32; WORDS]) -> Settings
     ensures { result ≡ settings_in words.now }
 {
-    let replicas = replicas_of(words[0], words[3]);
-    let clients = byte_at(words, 1);
-    let cells = byte_at(words, 2);
     Settings {
-        replicas: replicas,
-        clients: clients,
-        cells: cells,
+        replicas: replicas_of(words[0], words[3]),
+        clients: byte(words[1]),
+        cells: byte(words[2]),
     }
 }
 
 // The rack of the words.
-fn load(words: &[u32]) -> Rack
-    requires { length words.now ≡ word_count }
+#[tactic(auto, unfolding(layout::specs::Reading::rack_of))]
+fn load(words: &[u32; WORDS]) -> Rack
     ensures { result ≡ rack_of words.now }
 {
-    let settings = settings_of(words);
-    let power = power_of(words[3]);
     let n = count_of(words);
-    let count = count_in(words, n);
-    let parties = parties_of(words);
-    let pairs = pairs_of(words);
-    let wire = wire_of(words);
-    let lines = lines_of(words, n);
     Rack {
-        settings: settings,
-        power: power,
-        count: count,
-        parties: parties,
-        pairs: pairs,
-        wire: wire,
-        lines: lines,
+        settings: settings_of(words),
+        power: power_of(words[3]),
+        count: count_in(words, n),
+        parties: parties_of(words),
+        pairs: pairs_of(words),
+        wire: wire_of(words),
+        lines: lines_of(words, n),
     }
 }
 
-// ---- writing
+// ---- the words of each part
 
-// Some words, one after another.
-fn put(words: &mut [u32], at: usize, new: &[u32])
-    requires { at + length new.now ≤ length words.old }
-    ensures { words.new ≡ sets words.old at new.now }
+fn pair_words(pair: Pair) -> [u32; PAIR_WORDS]
+    ensures { result ≡ pair_words pair }
 {
-    let mut i: usize = 0;
-    while i < new.len() {
-        words[at + i] = new[i];
-        i += 1;
-    }
-}
-
-fn put_pair(words: &mut [u32], at: usize, pair: Pair)
-    requires { at + pair_size ≤ length words.old }
-    ensures { words.new ≡ sets words.old at (pair_words pair) }
-{
-    let stamp = pair.stamp;
-    let three = [
-        stamp.number,
-        stamp.rank as u32,
+    [
+        pair.stamp.number,
+        u32::from(pair.stamp.rank),
         number::alternating(pair.value),
-    ];
-    put(words, at, &three);
+    ]
 }
 
-fn put_no_pair(words: &mut [u32], at: usize)
-    requires { at + pair_size ≤ length words.old }
-    ensures { words.new ≡ sets words.old at no_pair }
-{
-    let three = [0u32, 0, 0];
-    put(words, at, &three);
-}
-
-fn put_open(words: &mut [u32], at: usize, phase: u32, cell: Cell, goal: Goal, set: u16)
-    requires { at + 5 ≤ length words.old }
-    ensures { words.new ≡ sets words.old at (open_words phase cell goal set) }
+#[tactic(auto, unfolding(layout::specs::Writing::open_words))]
+fn open_words(phase: u32, cell: Cell, goal: Goal, set: u16) -> [u32; OPEN_WORDS]
+    ensures { result ≡ open_words phase cell goal set }
 {
     match goal {
-        Goal::Read => {
-            let five = [phase, cell.0 as u32, 0, 0, set as u32];
-            put(words, at, &five)
-        }
-        Goal::Write(v) => {
-            let five = [phase, cell.0 as u32, 1, number::alternating(v), set as u32];
-            put(words, at, &five)
-        }
+        Goal::Read => [phase, u32::from(cell.0), 0, 0, u32::from(set)],
+        Goal::Write(v) => [
+            phase,
+            u32::from(cell.0),
+            1,
+            number::alternating(v),
+            u32::from(set),
+        ],
     }
 }
 
+#[tactic(auto, unfolding(layout::specs::Writing::phase_word))]
 fn phase_word(phase: Phase) -> u32
     ensures { result ≡ phase_word phase }
 {
@@ -577,69 +469,51 @@ fn phase_word(phase: Phase) -> u32
     }
 }
 
-fn put_holding(words: &mut [u32], at: usize, held: Holding)
-    requires { at + pair_size ≤ length words.old }
-    ensures { words.new ≡ sets words.old at (holding_words held) }
+#[tactic(auto, unfolding(layout::specs::Writing::holding_words))]
+fn holding_words(held: Option<Pair>) -> [u32; PAIR_WORDS]
+    ensures { result ≡ holding_words held }
 {
     match held {
-        Holding::NoPair => put_no_pair(words, at),
-        Holding::Holds(pair) => put_pair(words, at, pair),
+        None => [0; PAIR_WORDS],
+        Some(pair) => pair_words(pair),
     }
 }
 
-fn put_held(words: &mut [u32], at: usize, phase: Phase)
-    requires { at + pair_size ≤ length words.old }
-    ensures { words.new ≡ sets words.old at (held_words phase) }
+#[tactic(auto, unfolding(layout::specs::Writing::held_words))]
+fn held_words(phase: Phase) -> [u32; PAIR_WORDS]
+    ensures { result ≡ held_words phase }
 {
     match phase {
-        Phase::Asking(held) => put_holding(words, at, held),
-        Phase::Keeping(pair) => put_pair(words, at, pair),
+        Phase::Asking(held) => holding_words(held),
+        Phase::Keeping(pair) => pair_words(pair),
     }
 }
 
-fn put_operation(words: &mut [u32], at: usize, operation: Operation)
-    requires { at + work_size ≤ length words.old }
-    ensures { words.new ≡ sets words.old at (operation_words operation) }
+fn operation_words(operation: Operation) -> [u32; WORK_WORDS]
+    ensures { result ≡ operation_words operation }
 {
-    let phase = operation.phase;
-    let cell = operation.cell;
-    let goal = operation.goal;
-    put_open(words, at, phase_word(phase), cell, goal, operation.set);
-    put_held(words, at + 5, phase)
+    let phase = phase_word(operation.phase);
+    let [phase, cell, goal, value, set] = open_words(
+        phase,
+        operation.cell,
+        operation.goal,
+        operation.set,
+    );
+    let [number, rank, held] = held_words(operation.phase);
+    [phase, cell, goal, value, set, number, rank, held]
 }
 
-fn put_work(words: &mut [u32], at: usize, work: Work)
-    requires { at + work_size ≤ length words.old }
-    ensures { words.new ≡ sets words.old at (work_words work) }
+#[tactic(auto, unfolding(layout::specs::Writing::work_words))]
+fn work_words(work: Option<Operation>) -> [u32; WORK_WORDS]
+    ensures { result ≡ work_words work }
 {
     match work {
-        Work::Idle => {
-            let eight = [0u32; WORK_WORDS];
-            put(words, at, &eight)
-        }
-        Work::Open(operation) => put_operation(words, at, operation),
+        None => [0; WORK_WORDS],
+        Some(operation) => operation_words(operation),
     }
 }
 
-fn flag(b: bool) -> u32
-    ensures { result ≡ flag b }
-{
-    if b {
-        return 1;
-    }
-    0
-}
-
-fn put_party(words: &mut [u32], at: usize, party: Party)
-    requires { at + party_size ≤ length words.old }
-    ensures { words.new ≡ sets words.old at (party_words party) }
-{
-    let two = [flag(party.stopped), party.op as u32];
-    put(words, at, &two);
-    let work = party.work;
-    put_work(words, at + 2, work)
-}
-
+#[tactic(auto, unfolding(layout::specs::Writing::body_kind))]
 fn body_kind(body: Body) -> u32
     ensures { result ≡ body_kind body }
 {
@@ -651,198 +525,166 @@ fn body_kind(body: Body) -> u32
     }
 }
 
-fn put_body(words: &mut [u32], at: usize, body: Body)
-    requires { at + pair_size ≤ length words.old }
-    ensures { words.new ≡ sets words.old at (body_words body) }
+#[tactic(auto, unfolding(layout::specs::Writing::body_words))]
+fn body_words(body: Body) -> [u32; PAIR_WORDS]
+    ensures { result ≡ body_words body }
 {
     match body {
-        Body::Ask => put_no_pair(words, at),
-        Body::Tell(pair) => put_pair(words, at, pair),
-        Body::Keep(pair) => put_pair(words, at, pair),
-        Body::Kept => put_no_pair(words, at),
+        Body::Ask | Body::Kept => [0; PAIR_WORDS],
+        Body::Tell(pair) | Body::Keep(pair) => pair_words(pair),
     }
 }
 
-fn put_message(words: &mut [u32], at: usize, m: Message)
-    requires { at + slot_size ≤ length words.old }
-    ensures { words.new ≡ sets words.old at (slot_words (InSlot.Full m)) }
+fn message_words(m: Message) -> [u32; SLOT_WORDS]
+    ensures { result ≡ slot_words (Some m) }
 {
-    let client = m.client;
-    let replica = m.replica;
-    let cell = m.cell;
-    let body = m.body;
-    let six = [
+    let [number, rank, value] = body_words(m.body);
+    [
         1,
-        body_kind(body),
-        client.0 as u32,
-        replica.0 as u32,
-        cell.0 as u32,
-        m.op as u32,
-    ];
-    put(words, at, &six);
-    put_body(words, at + 6, body)
-}
-
-fn put_slot(words: &mut [u32], at: usize, held: InSlot)
-    requires { at + slot_size ≤ length words.old }
-    ensures { words.new ≡ sets words.old at (slot_words held) }
-{
-    match held {
-        InSlot::Empty => {
-            let nine = [0u32; SLOT_WORDS];
-            put(words, at, &nine)
-        }
-        InSlot::Full(m) => put_message(words, at, m),
-    }
-}
-
-fn put_entry(words: &mut [u32], at: usize, entry: Entry)
-    requires { at + entry_size ≤ length words.old }
-    ensures { words.new ≡ sets words.old at (row_of entry) }
-{
-    rows::store_row(words, at, entry);
+        body_kind(m.body),
+        u32::from(m.client.0),
+        u32::from(m.replica.0),
+        u32::from(m.cell.0),
+        u32::from(m.op),
+        number,
+        rank,
+        value,
+    ]
 }
 
 // ---- writing each part
 
-fn put_head(words: &mut [u32], rack: Rack)
-    requires { (length words.old ≡ word_count) × (rack.count ≤ entry_limit) }
-    ensures { words.new ≡ head_of rack words.old }
+// Some words, one after another.
+fn put(words: &mut [u32; WORDS], at: usize, new: &[u32])
+    requires { at + length new.now ≤ word_count }
+    ensures { words.new ≡ sets words.old at new.now }
 {
-    let settings = rack.settings;
-    let five = [
-        settings.replicas as u32,
-        settings.clients as u32,
-        settings.cells as u32,
-        rack.power as u32,
-        rack.count as u32,
-    ];
-    put(words, 0, &five)
+    words[at..at + new.len()].copy_from_slice(new);
 }
 
-fn put_parties(words: &mut [u32], parties: [Party; Client::LIMIT], n: usize)
-    requires { (length words.old ≡ word_count) × (n ≤ client_limit) }
-    ensures { words.new ≡ put_firsts n party_place (λ i. party_words (get_or parties i idle)) words.old }
+#[tactic(auto, unfolding(layout::specs::Writing::head_of))]
+fn put_head(words: &mut [u32; WORDS], rack: &Rack)
+    requires { rack.now.count ≤ entry_limit }
+    ensures { words.new ≡ head_of rack.now words.old }
 {
-    let mut i: usize = 0;
-    while i < n {
-        let party = parties[i];
-        put_party(words, PARTIES_AT + PARTY_WORDS * i, party);
-        i += 1;
+    let head = [
+        u32::from(rack.settings.replicas),
+        u32::from(rack.settings.clients),
+        u32::from(rack.settings.cells),
+        u32::from(rack.power),
+        rack.count as u32,
+    ];
+    put(words, 0, &head);
+}
+
+fn put_party(words: &mut [u32; WORDS], at: usize, party: Party)
+    requires { at + party_size ≤ word_count }
+    ensures { words.new ≡ sets words.old at (party_words party) }
+{
+    put(words, at, &[u32::from(party.stopped), u32::from(party.op)]);
+    put(words, at + 2, &work_words(party.work));
+}
+
+#[tactic(auto, unfolding(layout::specs::Writing::parties_put))]
+fn put_parties(words: &mut [u32; WORDS], rack: &Rack)
+    requires { rack.now.settings.clients ≤ client_limit }
+    ensures { words.new ≡ parties_put rack.now words.old }
+{
+    for i in 0..usize::from(rack.settings.clients) {
+        put_party(words, PARTIES_AT + PARTY_WORDS * i, rack.parties[i]);
     }
 }
 
 // A pair of a cell that the rack hasn't got is not written.
-fn put_pair_of(words: &mut [u32], cells: usize, i: usize, pair: Pair)
-    requires { (length words.old ≡ word_count) × (i < pair_limit) }
-    ensures { words.new ≡ sets words.old (pair_place i) (pair_written cells i pair) }
+#[tactic(auto, unfolding(layout::specs::Writing::pair_written))]
+fn put_pair(words: &mut [u32; WORDS], rack: &Rack, i: usize)
+    requires { i < pair_limit }
+    ensures { words.new ≡ sets words.old (pair_place i) (pair_written rack.now.settings.cells i (get_or rack.now.pairs i fresh_pair)) }
 {
-    if i % Cell::LIMIT < cells {
-        put_pair(words, PAIRS_AT + PAIR_WORDS * i, pair)
+    if i % Cell::LIMIT < usize::from(rack.settings.cells) {
+        put(words, PAIRS_AT + PAIR_WORDS * i, &pair_words(rack.pairs[i]));
     }
 }
 
-fn put_pairs(words: &mut [u32], pairs: [Pair; Rack::PAIRS], n: usize, cells: usize)
-    requires { (length words.old ≡ word_count) × (n ≤ pair_limit) }
-    ensures { words.new ≡ put_firsts n pair_place (λ i. pair_written cells i (get_or pairs i fresh_pair)) words.old }
+#[tactic(auto, unfolding(layout::specs::Writing::pairs_put))]
+fn put_pairs(words: &mut [u32; WORDS], rack: &Rack)
+    requires { rack.now.settings.replicas ≤ replica_limit }
+    ensures { words.new ≡ pairs_put rack.now words.old }
 {
-    let mut i: usize = 0;
-    while i < n {
-        let pair = pairs[i];
-        put_pair_of(words, cells, i, pair);
-        i += 1;
+    for i in 0..Cell::LIMIT * usize::from(rack.settings.replicas) {
+        put_pair(words, rack, i);
     }
 }
 
-fn put_wire(words: &mut [u32], wire: [Slot; Rack::SLOTS])
-    requires { length words.old ≡ word_count }
-    ensures { words.new ≡ put_firsts slot_limit slot_place (λ i. slot_words (held_in wire i)) words.old }
+#[tactic(auto, unfolding(layout::specs::Writing::slot_words))]
+fn put_slot(words: &mut [u32; WORDS], at: usize, held: Option<Message>)
+    requires { at + slot_size ≤ word_count }
+    ensures { words.new ≡ sets words.old at (slot_words held) }
 {
-    let mut i: usize = 0;
-    while i < Rack::SLOTS {
-        let slot = wire[i];
-        let held = slot.held;
-        put_slot(words, SLOTS_AT + SLOT_WORDS * i, held);
-        i += 1;
+    match held {
+        None => put(words, at, &[0; SLOT_WORDS]),
+        Some(m) => put(words, at, &message_words(m)),
     }
 }
 
-fn put_lines(words: &mut [u32], lines: [Line; Rack::ENTRIES], n: usize)
-    requires { (length words.old ≡ word_count) × (n ≤ entry_limit) }
-    ensures { words.new ≡ put_firsts n entry_place (λ i. row_of (entry_in lines i)) words.old }
+#[tactic(auto, unfolding(layout::specs::Writing::wire_put))]
+fn put_wire(words: &mut [u32; WORDS], rack: &Rack)
+    ensures { words.new ≡ wire_put rack.now words.old }
 {
-    let mut i: usize = 0;
-    while i < n {
-        let line = lines[i];
-        let entry = line.entry;
-        put_entry(words, ENTRIES_AT + ENTRY_WORDS * i, entry);
-        i += 1;
+    for i in 0..Rack::SLOTS {
+        put_slot(words, SLOTS_AT + SLOT_WORDS * i, rack.wire[i].held);
     }
 }
 
-// The clients and the pairs of the rack, within its sizes.
-fn put_members(words: &mut [u32], rack: Rack)
-    requires { (length words.old ≡ word_count) × (sound_of rack ≡ true) }
-    ensures { words.new ≡ pairs_put rack (parties_put rack words.old) }
+#[tactic(auto, unfolding(layout::specs::Writing::record_put))]
+fn put_lines(words: &mut [u32; WORDS], rack: &Rack)
+    requires { rack.now.count ≤ entry_limit }
+    ensures { words.new ≡ record_put rack.now words.old }
 {
-    let settings = rack.settings;
-    let parties = rack.parties;
-    put_parties(words, parties, settings.clients as usize);
-    let pairs = rack.pairs;
-    put_pairs(
-        words,
-        pairs,
-        Cell::LIMIT * (settings.replicas as usize),
-        settings.cells as usize,
-    )
+    for i in 0..rack.count {
+        put(
+            words,
+            ENTRIES_AT + ENTRY_WORDS * i,
+            &rows::row_of(rack.lines[i].entry),
+        );
+    }
 }
 
 // The rack in its words.
-fn store(words: &mut [u32], rack: Rack)
-    requires { (length words.old ≡ word_count) × (sound_of rack ≡ true) }
-    ensures { words.new ≡ written_of rack words.old }
+#[tactic(auto, unfolding(layout::specs::Writing::written_of))]
+fn store(words: &mut [u32; WORDS], rack: &Rack)
+    requires { sound_of rack.now ≡ true }
+    ensures { words.new ≡ written_of rack.now words.old }
 {
     put_head(words, rack);
-    put_members(words, rack);
-    let wire = rack.wire;
-    put_wire(words, wire);
-    let lines = rack.lines;
-    put_lines(words, lines, rack.count)
-}
-
-fn clear(words: &mut [u32])
-    ensures { words.new ≡ replicate (length words.old) 0 }
-{
-    let mut i: usize = 0;
-    while i < words.len() {
-        words[i] = 0;
-        i += 1;
-    }
+    put_parties(words, rack);
+    put_pairs(words, rack);
+    put_wire(words, rack);
+    put_lines(words, rack);
 }
 
 // ---- the calls
 
-fn answered(done: usize, refusal: u8) -> WordsAnswer
-    ensures { result ≡ record { done = done; refusal = refusal } }
-{
-    WordsAnswer {
-        done: done,
-        refusal: refusal,
-    }
-}
+// What is answered where the lent words are no rack's.
+const UNFIT: WordsAnswer = WordsAnswer {
+    done: 0,
+    refusal: Refusal::TooShort as u8,
+};
 
 // Writes the fresh rack of these sizes; where one is out of range, that is refused 1 and the fresh rack is of sizes 1, 1, 1.
 pub fn made(words: &mut [u32], replicas: u32, clients: u32, cells: u32) -> WordsAnswer
     ensures { (result ≡ (made_outcome replicas clients cells words.old).answer) × (words.new ≡ (made_outcome replicas clients cells words.old).lent) }
 {
-    if words.len() != WORDS {
-        return answered(0, 20);
-    }
+    let Some(words) = words.as_mut_array::<WORDS>() else {
+        return UNFIT;
+    };
     let made = Rack::made(replicas, clients, cells);
-    clear(words);
-    let rack = made.rack;
-    store(words, rack);
-    answered(0, made.refusal)
+    words.fill(0);
+    store(words, &made.rack);
+    WordsAnswer {
+        done: 0,
+        refusal: made.refusal,
+    }
 }
 
 // Runs a schedule on the rack of the words.
@@ -850,15 +692,20 @@ pub fn run(words: &mut [u32], allowance: usize, events: &[u32]) -> WordsAnswer
     ensures { (result ≡ (run_outcome words.old allowance events.now).answer) ×
         (words.new ≡ (run_outcome words.old allowance events.now).lent) }
 {
-    if words.len() != WORDS {
-        return answered(0, 20);
-    }
-    let rack = load(words);
-    let ran = schedule::run(rack, allowance, events);
+    let Some(words) = words.as_mut_array::<WORDS>() else {
+        return UNFIT;
+    };
+    let ran = schedule::run(load(words), allowance, events);
     if ran.done == 0 {
-        return answered(0, ran.refusal);
+        return WordsAnswer {
+            done: 0,
+            refusal: ran.refusal,
+        };
     }
     let after = ran.rack;
-    store(words, after);
-    answered(ran.done, ran.refusal)
+    store(words, &after);
+    WordsAnswer {
+        done: ran.done,
+        refusal: ran.refusal,
+    }
 }

@@ -1,4 +1,5 @@
 -- The writer's second pass: n rows are written, the next bytes go to place out.
+use Rattle.std.specs.Prelude.{Ok, Err, IsOk}
 use Prim.Native.Nat.{ℕ, ◌+◌, ◌*◌, ◌/◌, ◌≤◌, ◌<◌}
 use mathlib.Core.Path.{◌≡◌, refl, sym, ap, ap₂, ◌∙◌}
 use mathlib.Core.List.{List}
@@ -7,10 +8,12 @@ use lib.ListN.{length}
 use lib.Seq.{sets}
 use lib.Dec.{leb}
 use Rattle.record.specs.declared.Entry.{Entry}
-use Rattle.record.specs.declared.Found.TheVariants.{At, Fault}
-use Rattle.record.specs.declared.Answer.TheVariants.{All, Refused}
 use Rattle.record.specs.Entry.{entry_bytes}
 use Rattle.record.specs.Record.{entry_limit, fresh, Held, entries, fault, bytes_of}
+use Rattle.refusal.specs.declared.Refusal.{Refusal}
+use Rattle.refusal.specs.declared.Refusal.TheVariants.{TooShort}
+use Rattle.number.specs.laws.NumberLaws.{same_read}
+use Rattle.record.specs.laws.Steps.{same_fault}
 use Rattle.rows.specs.Row.{row_at}
 use Rattle.rows.specs.Rows.{rows_held, refused, write_into, write_outcome, Outcome}
 use Rattle.rows.specs.laws.Storing.{measure_of, Writable, Going, Next, step, some_left, none_left, same_going, finish, stored_fits, stored_short}
@@ -39,18 +42,18 @@ module _ (rows bytes₀ bytes : List ℕ) (n out : ℕ) (w : Emitting rows bytes
   waits l = step (λ i. leb (i + 4) (length rows)) (row_at rows) entry_bytes bytes₀ w.all bytes (4 * n) out w.going
       (some_left (λ i. leb (i + 4) (length rows)) (row_at rows) entry_bytes bytes₀ w.all bytes (4 * n) out w.going (more_rows rows n l))
 
-  pub emits_entry : (k : ℕ) → n < length rows / 4 → row_at rows (4 * n) ≡ Fault k → ⊥
-  emits_entry k l f = let x = waits l in let y = x.is in let z : ◌≡◌ {A = ℕ} 0 1 = cc in omega arith
+  pub emits_ok : n < length rows / 4 → IsOk (row_at rows (4 * n))
+  emits_ok l = rw (waits l).is refl
 
-  pub emits_room : (e : Entry) (next : ℕ) → n < length rows / 4 → row_at rows (4 * n) ≡ At e next → out + length (entry_bytes e) ≤ length bytes
-  emits_room e next l f = let x = waits l in let y = x.is in let same : x.e ≡ e = cc in rw (← same) x.room
+  pub emits_room : (e : Entry) (next : ℕ) → n < length rows / 4 → row_at rows (4 * n) ≡ Ok (e, next) → out + length (entry_bytes e) ≤ length bytes
+  emits_room e next l f = let x = waits l in let y = x.is in let same = (same_read (sym y ∙ f)).0 in rw (← same) x.room
 
-  pub emits_on : (e : Entry) (next : ℕ) (bytes' : List ℕ) (out' : ℕ) → n < length rows / 4 → row_at rows (4 * n) ≡ At e next
+  pub emits_on : (e : Entry) (next : ℕ) (bytes' : List ℕ) (out' : ℕ) → n < length rows / 4 → row_at rows (4 * n) ≡ Ok (e, next)
       → Wrote bytes out (entry_bytes e) out' bytes' → Emitting rows bytes₀ bytes' (n + 1) out'
   emits_on e next bytes' out' l f r =
       let x = waits l in
       let y = x.is in
-      let same : x.e ≡ e = cc in
+      let same : x.e ≡ e = (same_read (sym y ∙ f)).0 in
       let after : x.next ≡ 4 * (n + 1) = row_next rows (4 * n) x.e x.next y ∙ omega arith in
       let place : out + length (entry_bytes x.e) ≡ out' = ap (λ (z : Entry). out + length (entry_bytes z)) same ∙ sym r.place in
       let stored : sets bytes out (entry_bytes x.e) ≡ bytes' = ap (λ (z : Entry). sets bytes out (entry_bytes z)) same ∙ sym r.list in
@@ -73,18 +76,18 @@ module _ (rows bytes₀ bytes : List ℕ) (n out : ℕ) (w : Emitting rows bytes
 
 -- ---- the writer's answer, by what was measured
 
-measure_held : (h : Held) (n : ℕ) → measure_of h ≡ All n → (es : List Entry) × ((h ≡ entries es) × (length (bytes_of es) ≡ n))
+measure_held : (h : Held) (n : ℕ) → measure_of h ≡ Ok n → (es : List Entry) × ((h ≡ entries es) × (length (bytes_of es) ≡ n))
 unfolding measure_of
 measure_held (entries es) n p = (es, (refl, cc))
 measure_held (fault k m) n p = let z : ◌≡◌ {A = ℕ} 0 1 = cc in absurd (omega arith)
 
-pub write_refused : (h : Held) (k n : ℕ) (d : List ℕ) → measure_of h ≡ Refused k n → write_into h d ≡ refused k n d
+pub write_refused : (h : Held) (k : Refusal) (n : ℕ) (d : List ℕ) → measure_of h ≡ Err (k, n) → write_into h d ≡ refused k n d
 unfolding measure_of write_into
 write_refused (entries es) k n d p = let z : ◌≡◌ {A = ℕ} 0 1 = cc in absurd (omega arith)
-write_refused (fault j m) k n d p = let e : j ≡ k = cc in let f : m ≡ n = cc in ap₂ (λ (x y : ℕ). refused x y d) e f
+write_refused (fault j m) k n d p = let e = same_fault p in ap₂ (λ (x : Refusal) (y : ℕ). refused x y d) e.0 e.1
 
-module _ (h : Held) (n : ℕ) (d : List ℕ) (p : measure_of h ≡ All n) where
-  pub write_short : length d < n → write_into h d ≡ refused 20 0 d
+module _ (h : Held) (n : ℕ) (d : List ℕ) (p : measure_of h ≡ Ok n) where
+  pub write_short : length d < n → write_into h d ≡ refused TooShort 0 d
   unfolding write_into
   write_short l =
       let w = measure_held h n p in
@@ -93,10 +96,10 @@ module _ (h : Held) (n : ℕ) (d : List ℕ) (p : measure_of h ≡ All n) where
   pub write_writable : n ≤ length d → Writable h d
   write_writable l = let w = measure_held h n p in record { all = w.0; held = w.1.0; room = omega (arith, w.1.1) }
 
-  pub write_all : n ≤ length d → (write_into h d).answer ≡ All n
+  pub write_all : n ≤ length d → (write_into h d).answer ≡ Ok n
   unfolding write_into
   write_all l =
       let w = measure_held h n p in
       ap (λ (x : Held). (write_into x d).answer) w.1.0
       ∙ ap (λ (o : Outcome). o.answer) (stored_fits (bytes_of w.0) (length (bytes_of w.0)) d (omega (arith, w.1.1)))
-      ∙ ap All w.1.1
+      ∙ ap Ok w.1.1

@@ -9,8 +9,9 @@ ghost use Rattle.rows.specs.Rows.{rows_held, write_outcome, Leaves};
 ghost use Rattle.rows.specs.laws.Storing.{measure_of, Writable};
 ghost use Rattle.number.specs.Wrote.{Wrote};
 
-use number::{Put, number_length};
+use number::number_length;
 use record::{Answer, Cell, Client, ENTRY_LIMIT, Entry, Found, Standing};
+use refusal::Refusal;
 use rows::row_of;
 
 // What four numbers of a row are; `next` is the place after them. A field that the kind hasn't got isn't looked at.
@@ -18,40 +19,30 @@ fn row_found(kind: u32, client: u32, cell: u32, value: u32, next: usize) -> Foun
     ensures { result ≡ row_found kind client cell value next }
 {
     if 3 < kind {
-        return Found::Fault(24);
+        return Err(Refusal::KindAbove);
     }
     if Client::LAST < client {
-        return Found::Fault(25);
+        return Err(Refusal::FieldAbove);
     }
+    let client = Client(client as u8);
     if kind == 3 {
-        return Found::At(Entry::Done(Client(client as u8)), next);
+        return Ok((Entry::Done(client), next));
     }
     if kind == 2 {
-        return Found::At(
-            Entry::Told(Client(client as u8), number::signed(value)),
-            next,
-        );
+        return Ok((Entry::Told(client, number::signed(value)), next));
     }
     if Cell::LAST < cell {
-        return Found::Fault(25);
+        return Err(Refusal::FieldAbove);
     }
+    let cell = Cell(cell as u8);
     if kind == 0 {
-        return Found::At(
-            Entry::ReadAsked(Client(client as u8), Cell(cell as u8)),
-            next,
-        );
+        return Ok((Entry::ReadAsked(client, cell), next));
     }
-    Found::At(
-        Entry::WriteAsked(
-            Client(client as u8),
-            Cell(cell as u8),
-            number::signed(value),
-        ),
-        next,
-    )
+    Ok((Entry::WriteAsked(client, cell, number::signed(value)), next))
 }
 
 // The row at a place of the lent rows.
+#[tactic(auto, unfolding(rows::specs::Row::row_at))]
 fn row_at(rows: &[u32], at: usize) -> Found
     requires { at + 4 ≤ length rows.now }
     ensures { result ≡ row_at rows.now at }
@@ -83,30 +74,23 @@ fn entry_length(e: Entry) -> usize
 fn measure(rows: &[u32]) -> Answer
     ensures { result ≡ measure_of (rows_held rows.now) }
 {
-    let whole = rows.len() / 4;
     let mut st = Standing::fresh();
-    let mut n: usize = 0;
     let mut sum: usize = 0;
-    while n < whole {
+    for n in 0..rows.len() / 4 {
         if n == ENTRY_LIMIT {
-            return Answer::Refused(28, n);
+            return Err((Refusal::TooMany, n));
         }
-        match row_at(rows, 4 * n) {
-            Found::Fault(k) => {
-                return Answer::Refused(k, n);
-            }
-            Found::At(e, next) => {
-                let k = st.fault(e);
-                if k != 0 {
-                    return Answer::Refused(k, n);
-                }
-                st = st.after(e);
-                sum += entry_length(e);
-            }
+        let e = match row_at(rows, 4 * n) {
+            Ok((e, _)) => e,
+            Err(refusal) => return Err((refusal, n)),
+        };
+        if let Some(refusal) = st.fault(e) {
+            return Err((refusal, n));
         }
-        n += 1;
+        st = st.after(e);
+        sum += entry_length(e);
     }
-    Answer::All(sum)
+    Ok(sum)
 }
 
 // One number that fits.
@@ -114,10 +98,7 @@ fn put_number(bytes: &mut [u8], at: usize, n: u32) -> usize
     requires { at + length (number_bytes n) ≤ length bytes.old }
     ensures { Wrote bytes.old at (number_bytes n) result bytes.new }
 {
-    match number::write_number(bytes, at, n) {
-        Put::Next(next) => next,
-        Put::NoRoom => at,
-    }
+    number::write_number(bytes, at, n).unwrap()
 }
 
 // An entry that fits: its row's numbers in order, without the fields that its kind hasn't got.
@@ -142,18 +123,15 @@ fn put_entry(bytes: &mut [u8], at: usize, e: Entry) -> usize
     put_number(bytes, c, row[3])
 }
 
-// Writes an entry at `at`, or nothing where it doesn't fit from there on.
-pub fn write_entry(bytes: &mut [u8], at: usize, e: Entry) -> Put
+// Writes an entry at `at`: the place after it, or nothing where it doesn't fit from there on.
+pub fn write_entry(bytes: &mut [u8], at: usize, e: Entry) -> Option<usize>
     ensures { Placed bytes.old at (entry_bytes e) result bytes.new }
 {
-    let room = bytes.len();
-    if room < at {
-        return Put::NoRoom;
+    let room = bytes.len().checked_sub(at)?;
+    if room < entry_length(e) {
+        return None;
     }
-    if room - at < entry_length(e) {
-        return Put::NoRoom;
-    }
-    Put::Next(put_entry(bytes, at, e))
+    Some(put_entry(bytes, at, e))
 }
 
 // Writes the entries that the rows hold.
@@ -161,19 +139,10 @@ fn put_rows(rows: &[u32], bytes: &mut [u8])
     requires { Writable (rows_held rows.now) bytes.old }
     ensures { bytes.new ≡ (write_outcome rows.now bytes.old).lent }
 {
-    let whole = rows.len() / 4;
-    let mut n = 0;
     let mut out = 0;
-    while n < whole {
-        match row_at(rows, 4 * n) {
-            Found::Fault(k) => {
-                return;
-            }
-            Found::At(e, next) => {
-                out = put_entry(bytes, out, e);
-            }
-        }
-        n += 1;
+    for n in 0..rows.len() / 4 {
+        let (e, _) = row_at(rows, 4 * n).unwrap();
+        out = put_entry(bytes, out, e);
     }
 }
 
@@ -181,14 +150,10 @@ fn put_rows(rows: &[u32], bytes: &mut [u8])
 pub fn write_record(rows: &[u32], bytes: &mut [u8]) -> Answer
     ensures { Leaves (write_outcome rows.now bytes.old) result bytes.new }
 {
-    match measure(rows) {
-        Answer::Refused(k, n) => Answer::Refused(k, n),
-        Answer::All(n) => {
-            if bytes.len() < n {
-                return Answer::Refused(20, 0);
-            }
-            put_rows(rows, bytes);
-            Answer::All(n)
-        }
+    let n = measure(rows)?;
+    if bytes.len() < n {
+        return Err((Refusal::TooShort, 0));
     }
+    put_rows(rows, bytes);
+    Ok(n)
 }

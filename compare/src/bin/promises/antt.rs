@@ -73,6 +73,8 @@ pub struct Definitions {
     pub items: Vec<Item>,
     /// Lines of the kind `pub mod NAME`.
     pub modules: Vec<String>,
+    /// The names of rulesets: lemmas that proofs ask for together, and no statement can name.
+    pub rulesets: Vec<String>,
     /// What was not understood.
     pub faults: Vec<String>,
 }
@@ -120,8 +122,26 @@ pub fn read_block(block: &[Token], headers: &[Vec<Token>], found: &mut Definitio
             "record" => read_type(chunk, Form::Record, marks, headers, found),
             "data" => read_type(chunk, Form::Data, marks, headers, found),
             "unfolding" => {}
+            "ruleset" => read_ruleset(chunk, &marks, found),
             _ => read_function_part(chunk, marks, headers, found),
         }
+    }
+}
+
+/// `ruleset NAME = (a, b)`, with `pub` before it or nothing.
+fn read_ruleset(chunk: &[Token], marks: &[String], found: &mut Definitions) {
+    let kind_at = |at: usize| chunk.get(at).map(|token| token.kind);
+    let listed = marks.len() + 4;
+    let named =
+        kind_at(marks.len() + 1) == Some(Kind::Word) && chunk.get(marks.len() + 2).is_some_and(|t| t.is_word("="));
+    let list = chunk.get(listed..chunk.len().saturating_sub(1)).unwrap_or(&[]);
+    let plain =
+        list.iter().enumerate().all(|(at, token)| token.kind == if at % 2 == 0 { Kind::Word } else { Kind::Comma });
+    let closed = kind_at(listed - 1) == Some(Kind::Open) && chunk.last().is_some_and(|token| token.text == ")");
+    if named && plain && closed && list.len() % 2 == 1 && marks.iter().all(|mark| mark == "pub") {
+        found.rulesets.push(chunk[marks.len() + 1].text.clone());
+    } else {
+        found.faults.push(misunderstood(chunk));
     }
 }
 
@@ -260,5 +280,25 @@ pub record R (x : A) : Type 0 where
         assert_eq!(found.items[0].headers.len(), 2);
         assert_eq!(found.items[0].parts.len(), 1);
         assert_eq!(found.items[1].members(), ["one", "two"]);
+    }
+
+    #[test]
+    fn rulesets_are_lists_of_names() {
+        let found = parse("f : A\nf = g\npub ruleset steps = (one,\n    two)\nruleset step = (one)\n");
+        assert!(found.faults.is_empty(), "{:?}", found.faults);
+        assert_eq!(found.rulesets, ["steps", "step"]);
+        assert_eq!((found.items.len(), found.items[0].parts.len()), (1, 1));
+        let strange = [
+            "ruleset",
+            "ruleset r",
+            "ruleset r =",
+            "ruleset r = one",
+            "ruleset r = ()",
+            "ruleset r = (f x)",
+            "axiom ruleset r = (f)",
+        ];
+        for source in strange {
+            assert_eq!(parse(source).faults.len(), 1, "{source}");
+        }
     }
 }

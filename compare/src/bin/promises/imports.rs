@@ -4,7 +4,7 @@ use crate::antt::{is_operator, pieces, Definitions, Use};
 use crate::free::is_language;
 use crate::project::{Crate, Project};
 use crate::reach::CONTRACT_WORDS;
-use crate::rt::{is_code_word, Code};
+use crate::rt::{is_code_word, is_std_word, Code};
 use crate::tokens::{tokens, Token};
 use std::collections::BTreeSet;
 
@@ -89,7 +89,7 @@ fn has_word(name: &str, is_word: &dyn Fn(&str) -> bool) -> bool {
 }
 
 fn is_own_in_code(name: &str) -> bool {
-    is_code_word(name) || is_language(name) || CONTRACT_WORDS.contains(&name)
+    is_code_word(name) || is_std_word(name) || is_language(name) || CONTRACT_WORDS.contains(&name)
 }
 
 /// The names that `use` lines bring.
@@ -103,6 +103,7 @@ fn names_brought(uses: &[Use]) -> BTreeSet<&str> {
 /// The names that a file of definitions or proofs brings and declares.
 fn names_declared(definitions: &Definitions) -> BTreeSet<&str> {
     let mut names = names_brought(&definitions.uses);
+    names.extend(definitions.rulesets.iter().map(String::as_str));
     for item in &definitions.items {
         names.insert(&item.name);
         names.extend(item.member_names());
@@ -112,7 +113,8 @@ fn names_declared(definitions: &Definitions) -> BTreeSet<&str> {
 
 /// The names that a file of code brings and declares.
 fn names_in_code(code: &Code) -> BTreeSet<&str> {
-    let declared = code.items.iter().flat_map(|item| item.variants.iter().chain([&item.name]));
+    let declared =
+        code.items.iter().flat_map(|item| item.variants.iter().chain(&item.type_parameters).chain([&item.name]));
     declared.chain(code.uses.iter().map(|(local, _)| local)).map(String::as_str).collect()
 }
 
@@ -128,6 +130,7 @@ fn misleading(definitions: &Definitions) -> Vec<String> {
         if brought
             || definitions.modules.iter().any(|name| name == first)
             || definitions.items.iter().any(|item| item.name == first)
+            || definitions.rulesets.iter().any(|name| name == first)
         {
             found.push(format!("the path {} begins with a name that the file brings", line.path));
         }

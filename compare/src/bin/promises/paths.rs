@@ -1,6 +1,6 @@
 //! Pages that name files of the sources: each file that they name is there, and declares the name that stands right before it.
 
-use crate::antt::Definitions;
+use crate::antt::{Definitions, Item};
 use crate::project::{Crate, Project};
 use crate::rt::is_code_word;
 use std::fs;
@@ -55,7 +55,8 @@ fn declares(project: &Project, path: &str, name: &str) -> bool {
 }
 
 fn defines(definitions: &Definitions, name: &str) -> bool {
-    definitions.items.iter().any(|item| item.name == name || item.member_names().any(|member| member == name))
+    let is_item = |item: &Item| item.name == name || item.member_names().any(|member| member == name);
+    definitions.items.iter().any(is_item) || definitions.rulesets.iter().any(|ruleset| ruleset == name)
 }
 
 fn codes(krate: &Crate, file: &str, name: &str) -> bool {

@@ -4,11 +4,15 @@ use crate::antt::Item;
 use crate::free::Walk;
 use crate::project::{Place, Project};
 use crate::resolve::{in_code, in_contract, in_definitions, Meaning, Target};
+use crate::rt;
 use crate::trees::{place_of, trees, Node};
 use std::collections::{BTreeMap, BTreeSet};
 
 /// Words of a contract that no `use` line brings: what a function answers, a method's receiver, and memory that is lent: as it stands, as it was, as it is left.
 pub const CONTRACT_WORDS: [&str; 5] = ["result", "self", "now", "old", "new"];
+
+/// What a clause says of what is lent to be called, by its type: that it may be called, and what a call of it gives.
+const CALLED: [&str; 2] = ["IsAlwaysCallable", "post"];
 
 /// The names that a file's listed items have from its `use` lines, by path.
 pub type Brought = BTreeMap<String, BTreeSet<String>>;
@@ -80,7 +84,9 @@ impl Reach {
         item.parameters.iter().for_each(|name| walk.bind(name));
         CONTRACT_WORDS.iter().for_each(|word| walk.bind(word));
         item.clauses.iter().for_each(|(_, clause)| walk.expression(&trees(clause)));
-        let names: BTreeSet<String> = walk.found.into_iter().collect();
+        let (of_types, names): (BTreeSet<String>, BTreeSet<String>) =
+            walk.found.into_iter().partition(|name| of_type_parameter(item, name));
+        self.check_type_parameters(project, place, &of_types);
         let meanings: Vec<_> = names.iter().map(|name| in_contract(project, place.krate, &place.file, name)).collect();
         let mut found: Vec<Place> =
             meanings.into_iter().filter_map(|meaning| self.take(project, place, meaning)).collect();
@@ -95,6 +101,22 @@ impl Reach {
             }
         }
         found.into_iter().map(|place| Step { place, statement_only: false }).collect()
+    }
+
+    /// A type parameter is the function's own: it has no other meaning there, and of it a clause names no more than `CALLED`.
+    fn check_type_parameters(&mut self, project: &Project, place: &Place, named: &BTreeSet<String>) {
+        let Some(item) = project.code(place) else { return };
+        for name in &item.type_parameters {
+            let in_code = in_code(project, place.krate, &place.file, std::slice::from_ref(name));
+            if in_code.is_ok() || in_contract(project, place.krate, &place.file, name).is_ok() {
+                self.fault(project, place, &format!("the type parameter {name} has another meaning"));
+            }
+        }
+        for name in named {
+            if name.split_once('.').is_some_and(|(_, said)| !CALLED.contains(&said)) {
+                self.fault(project, place, &format!("the name {name} is not known"));
+            }
+        }
     }
 
     /// Notes where a name came from; gives its item where it is one of the repository.
@@ -137,6 +159,12 @@ impl Reach {
     fn fault(&mut self, project: &Project, place: &Place, fault: &str) {
         self.faults.push(format!("{}: {}: {fault}", project.path_of(place.krate, &place.file), project.name_of(place)));
     }
+}
+
+/// Whether a name is one of a function's type parameters, or what is said of one.
+fn of_type_parameter(item: &rt::Item, name: &str) -> bool {
+    let first = name.split('.').next().unwrap_or("");
+    item.type_parameters.iter().any(|parameter| parameter == first)
 }
 
 /// An item that is to be looked at, and whether its statement alone counts.

@@ -5,11 +5,29 @@ use crate::project::{Place, Project};
 use crate::rt;
 
 /// Names that are there without a `use` line: those of the prelude `Prim`, its tactics too.
-const PRELUDE: [&str; 10] = ["⊥", "¬◌", "Unit", "absurd", "Dec", "yes", "no", "omega", "rw", "cc"];
+const PRELUDE: [&str; 11] = ["⊥", "¬◌", "Unit", "tt", "absurd", "Dec", "yes", "no", "omega", "rw", "cc"];
 
 /// Constructors of the kit's library that patterns here are made of. Of the repository's own types they are known.
-const KIT_CONSTRUCTORS: [&str; 13] =
-    ["true", "false", "zero", "suc", "[]", "◌∷◌", "pos", "negsuc", "inl", "inr", "refl", "yes", "no"];
+const KIT_CONSTRUCTORS: [&str; 18] = [
+    "true",
+    "false",
+    "zero",
+    "suc",
+    "[]",
+    "◌∷◌",
+    "pos",
+    "negsuc",
+    "inl",
+    "inr",
+    "refl",
+    "yes",
+    "no",
+    "tt",
+    "None",
+    "Some",
+    "Ok",
+    "Err",
+];
 
 #[derive(Clone, Debug, PartialEq)]
 pub enum Target {
@@ -59,14 +77,29 @@ fn defined(project: &Project, krate: usize, file: &str, word: &str) -> Result<Me
     one_of(found, word)
 }
 
-/// The meaning of a word in a contract of a file of code.
+/// The meaning of a word in a contract of a file of code: what its ghost lines bring, or a struct or enum that the code sees by that name.
 pub fn in_contract(project: &Project, krate: usize, file: &str, word: &str) -> Result<Meaning, String> {
     let uses = &project.crates[krate].code[file].ghost_uses;
-    let whole = through_uses(project, uses, word).and_then(|found| one_of(found, word));
+    let whole = through_uses(project, uses, word).and_then(|mut found| {
+        let seen = type_seen(project, krate, file, word);
+        let other = |meaning: &Meaning| found.iter().all(|brought| brought.target != meaning.target);
+        found.extend(seen.filter(other));
+        one_of(found, word)
+    });
     match before_field(word).filter(|_| whole.is_err()) {
         Some(head) => in_contract(project, krate, file, head),
         None => whole,
     }
+}
+
+/// The struct or enum that the code of a file sees by this name.
+fn type_seen(project: &Project, krate: usize, file: &str, word: &str) -> Option<Meaning> {
+    let place = in_code(project, krate, file, &[word.to_string()]).ok().flatten()?;
+    let item = project.code(&place)?;
+    let is_type = item.name == word && matches!(item.form, rt::Form::Struct | rt::Form::Enum);
+    let elsewhere = (place.krate, place.file.as_str()) != (krate, file);
+    let through = elsewhere.then(|| (project.path_of(place.krate, &place.file), word.to_string()));
+    is_type.then_some(Meaning { target: Target::Item(place), constructor: false, through })
 }
 
 /// Exactly one meaning, or the prelude's.
@@ -183,6 +216,9 @@ pub fn in_code(project: &Project, krate: usize, file: &str, path: &[String]) -> 
     let code = &project.crates[krate].code[file];
     let unknown = || format!("the name {} is not known", path.join("::"));
     let first = path.first().ok_or_else(unknown)?;
+    if path.len() == 1 && rt::is_std_word(first) {
+        return Ok(None);
+    }
     let own = code
         .items
         .iter()

@@ -32,12 +32,14 @@ pub struct Item {
     pub owner: Option<String>,
     /// The text, up to a function's body: lines with single spaces, `impl` line first where there is one.
     pub text: Vec<String>,
-    /// Paths of types and constants that it names, segments apart.
+    /// Paths of types and constants that it names, segments apart; of a function of an `impl` its type too.
     pub paths: Vec<Vec<String>>,
     /// An enum's variants.
     pub variants: Vec<String>,
     /// A function's parameters.
     pub parameters: Vec<String>,
+    /// A function's parameters that are types.
+    pub type_parameters: Vec<String>,
     /// A function's clauses: `requires` or `ensures`, and what they say.
     pub clauses: Vec<(String, Vec<Token>)>,
 }
@@ -384,11 +386,58 @@ fn read_item(
     let mut text: Vec<String> = owner.iter().map(|(_, header)| header.to_string()).collect();
     let indent = if owner.is_some() { "  " } else { "" };
     text.extend(lines_of(source, item, end).into_iter().map(|line| indent.to_string() + &line));
-    let (paths, variants, parameters) = names_in(&said[keyword + 2..], form);
+    let type_parameters = if form == Form::Function { type_parameters(&said[keyword + 2..])? } else { Vec::new() };
+    let (mut paths, variants, mut parameters) = names_in(&said[keyword + 2..], form);
+    paths.retain(|path| path.len() > 1 || !type_parameters.contains(&path[0]));
+    parameters.retain(|name| !type_parameters.contains(name));
     let clauses = said.iter().filter_map(|(piece, _, _)| clause_of(piece)).collect();
     let owner = owner.map(|(name, _)| name.to_string());
-    code.items.push(Item { name: name.to_string(), form, owner, text, paths, variants, parameters, clauses });
+    if form == Form::Function {
+        paths.extend(owner.iter().map(|name| vec![name.clone()]));
+    }
+    code.items.push(Item {
+        name: name.to_string(),
+        form,
+        owner,
+        text,
+        paths,
+        variants,
+        parameters,
+        type_parameters,
+        clauses,
+    });
     Some(())
+}
+
+/// The types among what stands in angle brackets right behind a function's name: `<'a, F: FnOnce(u8) -> E, T>` has F and T. None where it isn't understood.
+fn type_parameters(said: &[Placed]) -> Option<Vec<String>> {
+    let mut found = Vec::new();
+    if !is_mark(said.first(), '<') {
+        return Some(found);
+    }
+    let (mut depth, mut begins) = (0, false);
+    for (at, (piece, _, _)) in said.iter().enumerate() {
+        let before = at.checked_sub(1).and_then(|at| said.get(at));
+        match piece {
+            Piece::Mark('<' | '(' | '[') => depth += 1,
+            Piece::Mark('>') if is_mark(before, '-') => {}
+            Piece::Mark('>' | ')' | ']') => depth -= 1,
+            Piece::Word(word) if begins && !word.starts_with('\'') => {
+                let ends = matches!(said.get(at + 1), Some((Piece::Mark(':' | ',' | '>'), _, _)));
+                if is_code_word(word) || !ends {
+                    return None;
+                }
+                found.push(word.clone());
+            }
+            Piece::Word(_) | Piece::Mark(_) => {}
+            _ => return None,
+        }
+        if depth == 0 {
+            return Some(found);
+        }
+        begins = depth == 1 && matches!(piece, Piece::Mark('<' | ','));
+    }
+    None
 }
 
 /// An item's lines up to a place. Its attribute stands on its first line.
@@ -470,6 +519,11 @@ fn path_at(said: &[Placed], from: usize, first: &str) -> (Vec<String>, usize) {
     (path, at)
 }
 
+/// Types and traits of std that are there without a `use` line. No file declares or brings one of them.
+pub fn is_std_word(word: &str) -> bool {
+    ["Option", "Result", "FnOnce"].contains(&word)
+}
+
 /// Words that name no item: those of the language, its own types, numbers and lifetimes.
 pub fn is_code_word(word: &str) -> bool {
     const WORDS: [&str; 20] = [
@@ -518,10 +572,33 @@ impl Rack {
         assert_eq!(code.items[0].paths, [["Cell"], ["Held"]]);
         assert_eq!(code.items[1].paths, [["slots", "SLOTS"]]);
         assert_eq!(code.items[2].parameters, ["n", "rack"]);
+        assert_eq!(code.items[2].paths, [["Rack"], ["Made"], ["Rack"]]);
         assert_eq!(code.items[2].clauses.len(), 2);
         assert_eq!(code.items[2].text[1], "  pub fn made(n: u32, rack: &mut [Rack; 8]) -> Made");
         assert_eq!(code.uses[1].1, ["method", "Party"]);
         assert!(code.faults.is_empty(), "{:?}", code.faults);
+    }
+
+    #[test]
+    fn parts_of_named_types_and_numbers_of_variants() {
+        let code = parse("pub type Found = Result<(Entry, usize), Refusal>;\n#[derive(Debug)]\npub enum Refusal {\n    One = 1,\n    Two = LIMIT,\n}");
+        assert!(code.faults.is_empty(), "{:?}", code.faults);
+        assert_eq!(code.items[0].paths, [["Result"], ["Entry"], ["Refusal"]]);
+        assert_eq!(code.items[0].text, ["pub type Found = Result<(Entry, usize), Refusal>;"]);
+        assert_eq!(code.items[1].variants, ["One", "Two"]);
+        assert_eq!(code.items[1].paths, [["LIMIT"]]);
+        assert!(code.items[1].text.iter().any(|line| line.trim() == "One = 1,"));
+    }
+
+    #[test]
+    fn parameters_that_are_types() {
+        let code = parse(
+            "pub fn answer<'a, F: FnOnce(&[u8], Ending) -> Back, T>(input: &mut impl Read, say: F, t: Option<T>) {}",
+        );
+        assert!(code.faults.is_empty(), "{:?}", code.faults);
+        assert_eq!(code.items[0].type_parameters, ["F", "T"]);
+        assert_eq!(code.items[0].parameters, ["input", "say", "t"]);
+        assert_eq!(code.items[0].paths, [["FnOnce"], ["Ending"], ["Back"], ["Read"], ["Option"]]);
     }
 
     #[test]
@@ -550,6 +627,9 @@ impl Rack {
             "pub struct",
             "enum E {",
             "pub fn f() ensures",
+            "pub fn f<const N: usize>() {}",
+            "pub fn f<F() {}",
+            "pub fn f<u8>() {}",
         ];
         for source in strange {
             assert_eq!(parse(source).faults.len(), 1, "{source}");

@@ -169,8 +169,63 @@ const WEAKENINGS: &[Weakening] = &[
         mentions: "pub struct Client",
     },
     Weakening {
+        label: "what a named type of an answer is made of wider",
+        edits: &[edit(
+            "number",
+            "lib.rt",
+            "pub type Number = Result<(u32, usize), Refusal>;",
+            "pub type Number = Result<(u64, usize), Refusal>;",
+        )],
+        mentions: "pub type Number = Result<(u64",
+    },
+    Weakening {
+        label: "a refusal of a named type that is another",
+        edits: &[edit("number", "lib.rt", "use refusal::Refusal;\n", "pub enum Refusal {\n    Any = 21,\n}\n")],
+        mentions: "Any = 21",
+    },
+    Weakening {
+        label: "a refusal's number changed in the code",
+        edits: &[edit("refusal", "lib.rt", "    TooShort = 20,\n", "    TooShort = 15,\n")],
+        mentions: "TooShort = 15",
+    },
+    Weakening {
+        label: "a refusal's number changed in its definition",
+        edits: &[edit("refusal", "Number.antt", "paper_number TooShort = 20\n", "paper_number TooShort = 15\n")],
+        mentions: "paper_number TooShort = 15",
+    },
+    Weakening {
+        label: "a field of the type whose method is called narrower",
+        edits: &[edit("chains", "lib.rt", "    pub next: [u16; ENTRY_LIMIT],\n", "    pub next: [u8; ENTRY_LIMIT],\n")],
+        mentions: "pub next: [u8; ENTRY_LIMIT]",
+    },
+    Weakening {
+        label: "what is lent to be called told nothing",
+        edits: &[edit("input", "lib.rt", " × F.post say read ending tt }", " }")],
+        mentions: "pub fn answer",
+    },
+    Weakening {
+        label: "what is said of a call by its type under a word that isn't known",
+        edits: &[edit("input", "lib.rt", " × F.post say read ending tt }", " × F.anything say read ending tt }")],
+        mentions: "answer: the name F.anything is not known",
+    },
+    Weakening {
+        label: "a parameter that hides a type",
+        edits: &[edit("input", "lib.rt", "pub fn answer<F: FnOnce(&[u8], Ending)>", "pub fn answer<Ending, F: FnOnce(&[u8], Ending)>")],
+        mentions: "the type parameter Ending has another meaning",
+    },
+    Weakening {
+        label: "a type of a contract from elsewhere",
+        edits: &[edit("input", "lib.rt", "ghost use Rattle.std.specs.Borrow.{Bor};\n", "ghost use Rattle.std.specs.Borrow.{Bor};\nghost use lib.Loose.{Ending};\n")],
+        mentions: "the name Ending has 2 meanings",
+    },
+    Weakening {
+        label: "a type of code for one of std",
+        edits: &[edit("number", "lib.rt", "use refusal::Refusal;\n", "use refusal::Refusal;\n\npub struct Option();\n")],
+        mentions: "lib.rt: Option is a word",
+    },
+    Weakening {
         label: "a public function that promises nothing",
-        edits: &[edit("text", "lib.rt", "// Words, as bytes.\npub fn put_words", "pub fn take(n: u32) -> u32 {\n    n\n}\n\n// Words, as bytes.\npub fn put_words")],
+        edits: &[edit("text", "lib.rt", "// Words, as bytes, and the place after them.\n", "pub fn take(n: u32) -> u32 {\n    n\n}\n\n// Words, as bytes, and the place after them.\n")],
         mentions: "the public function take",
     },
     Weakening {
@@ -181,8 +236,13 @@ const WEAKENINGS: &[Weakening] = &[
     // ---- what names mean
     Weakening {
         label: "a symbol that means another one",
-        edits: &[edit("number", "Number.antt", ", ltb, leb, eqb}\n", ", leb as ltb, leb, eqb}\n")],
+        edits: &[edit("number", "Number.antt", ", ltb, leb, eqb, Option, ", ", leb as ltb, leb, eqb, Option, ")],
         mentions: "leb as ltb",
+    },
+    Weakening {
+        label: "a case of the kit's library from another path",
+        edits: &[edit("number", "Answers.antt", ", Option, Some, None, Ok, Err}\n", ", Option, Some, Ok, Err}\nuse lib.Loose.{None}\n")],
+        mentions: "lib.Loose",
     },
     Weakening {
         label: "a symbol of the contracts from another path",
@@ -350,49 +410,54 @@ const WEAKENINGS: &[Weakening] = &[
     Weakening {
         label: "a public function under a second name",
         edits: &[
-            edit("text", "lib.rt", "// Words, as bytes.\npub fn put_words", "pub use number::read_number as take;\n\n// Words, as bytes.\npub fn put_words"),
+            edit("text", "lib.rt", "// Words, as bytes, and the place after them.\n", "pub use number::read_number as take;\n\n// Words, as bytes, and the place after them.\n"),
         ],
         mentions: "pub use take",
     },
     Weakening {
         label: "several names in one line of code, and names of one of them",
         edits: &[
-            edit("text", "lib.rt", "// Words, as bytes.\npub fn put_words", "use number::{read_number, signed::{a, b}};\n\n// Words, as bytes.\npub fn put_words"),
+            edit("text", "lib.rt", "// Words, as bytes, and the place after them.\n", "use number::{read_number, signed::{a, b}};\n\n// Words, as bytes, and the place after them.\n"),
         ],
         mentions: "not understood: use number",
     },
     Weakening {
+        label: "a ruleset that is no list of names",
+        edits: &[edit("text", "Paging.antt", "pub ruleset page_steps = (with_both, with_nothing)", "pub ruleset page_steps = with_both")],
+        mentions: "not understood: pub ruleset",
+    },
+    Weakening {
         label: "a block of foreign functions in code",
         edits: &[
-            edit("text", "lib.rt", "// Words, as bytes.\npub fn put_words", "extern \"C\" {\n    fn take(n: u32) -> u32;\n}\n\n// Words, as bytes.\npub fn put_words"),
+            edit("text", "lib.rt", "// Words, as bytes, and the place after them.\n", "extern \"C\" {\n    fn take(n: u32) -> u32;\n}\n\n// Words, as bytes, and the place after them.\n"),
         ],
         mentions: "not understood: extern",
     },
     Weakening {
         label: "a function that is assumed in code",
         edits: &[
-            edit("text", "lib.rt", "// Words, as bytes.\npub fn put_words", "axiom fn take(n: u32) -> u32;\n\n// Words, as bytes.\npub fn put_words"),
+            edit("text", "lib.rt", "// Words, as bytes, and the place after them.\n", "axiom fn take(n: u32) -> u32;\n\n// Words, as bytes, and the place after them.\n"),
         ],
         mentions: "not understood: axiom fn",
     },
     Weakening {
         label: "an implementation for a trait in code",
         edits: &[
-            edit("text", "lib.rt", "// Words, as bytes.\npub fn put_words", "impl Take for Foo {\n    fn take(self) {}\n}\n\n// Words, as bytes.\npub fn put_words"),
+            edit("text", "lib.rt", "// Words, as bytes, and the place after them.\n", "impl Take for Foo {\n    fn take(self) {}\n}\n\n// Words, as bytes, and the place after them.\n"),
         ],
         mentions: "not understood: impl Take",
     },
     Weakening {
         label: "a trait in code",
         edits: &[
-            edit("text", "lib.rt", "// Words, as bytes.\npub fn put_words", "pub trait Take {\n    fn take(self);\n}\n\n// Words, as bytes.\npub fn put_words"),
+            edit("text", "lib.rt", "// Words, as bytes, and the place after them.\n", "pub trait Take {\n    fn take(self);\n}\n\n// Words, as bytes, and the place after them.\n"),
         ],
         mentions: "not understood: pub trait",
     },
     Weakening {
         label: "braces without an end in code",
         edits: &[
-            edit("text", "lib.rt", "// Words, as bytes.\npub fn put_words", "impl Foo {\n\n// Words, as bytes.\npub fn put_words"),
+            edit("text", "lib.rt", "// Words, as bytes, and the place after them.\n", "impl Foo {\n\n// Words, as bytes, and the place after them.\n"),
         ],
         mentions: "lib.rt: line",
     },

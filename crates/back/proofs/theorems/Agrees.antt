@@ -1,5 +1,5 @@
 -- The record of a rack and its clients agree at first and after every event, so the record of a run has no fault.
-use Rattle.std.specs.Prelude.{ℕ, zero, suc, ◌+◌, ◌^◌, ◌≤◌, ◌<◌, ◌≡◌, refl, ◌≢◌, Bool, true, false, cond, List, [], ◌∷◌, ◌++◌, ltb, eqb, get_or, set, length, replicate}
+use Rattle.std.specs.Prelude.{ℕ, zero, suc, ◌+◌, ◌^◌, ◌≤◌, ◌<◌, ◌≡◌, refl, ◌≢◌, Bool, true, false, cond, List, [], ◌∷◌, ◌++◌, ltb, eqb, get_or, set, length, replicate, Err, Ok, None}
 use Rattle.std.proofs.Common.{ap, sym, ◌∙◌, append-nil, arith, length-set, get_or-set_same, get_or-set_other, eq-eqb}
 use Rattle.std.proofs.Math.Decide.{ℕ_discrete}
 use Rattle.std.proofs.lemmas.List.{length-replicate}
@@ -24,8 +24,7 @@ use Rattle.method.specs.declared.Event.TheVariants.{Unknown}
 use Rattle.method.specs.declared.Note.{Note}
 use Rattle.method.specs.declared.Note.TheVariants.{Nothing, Asked, Ended}
 use Rattle.method.specs.declared.Plan.{Plan}
-use Rattle.method.specs.declared.Decision.{Decision}
-use Rattle.method.specs.declared.Decision.TheVariants.{No, Go}
+use Rattle.method.specs.Decision.{Decision}
 use Rattle.rack.specs.declared.Made.{Made}
 use Rattle.stamps.specs.Stamp.{fresh_pair}
 use Rattle.method.specs.Plan.{message_of}
@@ -57,7 +56,7 @@ in_range z n (Told client v) w = (omega (arith, w.0, n.clients), w.1)
 in_range z n (Done client) w = omega (arith, w, n.clients)
 
 -- its client has open what it needs, so it is no 26 and no 27
-no_fault : (st : Standing) (e : Entry) → has st (whose e) ≡ needs e → fault_after st e ≡ 0
+no_fault : (st : Standing) (e : Entry) → has st (whose e) ≡ needs e → fault_after st e ≡ None
 unfolding fault_after
 no_fault st (ReadAsked client cell) h = rw (eq-eqb _ 0 h)
 no_fault st (WriteAsked client cell v) h = rw (eq-eqb _ 0 h)
@@ -72,7 +71,7 @@ after_entry_lem st (WriteAsked client cell v) = refl
 after_entry_lem st (Told client v) = refl
 after_entry_lem st (Done client) = refl
 
-follows_next : (st : Standing) (es : List Entry) (e : Entry) → Follows st es → InRange e → fault_after (standing_from st es) e ≡ 0 → Follows st (es ++ (e ∷ []))
+follows_next : (st : Standing) (es : List Entry) (e : Entry) → Follows st es → InRange e → fault_after (standing_from st es) e ≡ None → Follows st (es ++ (e ∷ []))
 follows_next st [] e f r h = (r, h, tt)
 follows_next st (d ∷ es) e f r h = (f.0, f.1, follows_next (standing_after st d) es e f.2 r h)
 
@@ -152,7 +151,7 @@ small_stays r e p k before s h =
 -- ---- an event that is done
 
 -- it keeps to the record
-decided_keeps : (r : Rack) (e : Event) (p : Plan) → sound_of r ≡ true → FitsWords r → EventSmall e → decided r e ≡ Go p
+decided_keeps : (r : Rack) (e : Event) (p : Plan) → sound_of r ≡ true → FitsWords r → EventSmall e → decided r e ≡ Ok p
     → Keeps r.settings (looked_client r e) (open_in (looked_party r e).work) p
 decided_keeps r e p h s v g =
     let d : Decided r e p = decided_fits r e p h g in
@@ -169,15 +168,15 @@ stand_next z es fs k ps q t l i h = go (ℕ_discrete i k)
     go (no d) = t.others i d ∙ h ∙ sym (ap (λ (x : Party). open_in x.work) (get_or-set_other ps k i q idle d))
 
 -- the record has room for what it adds
-room_stays : (r : Rack) (e : Event) (p : Plan) → sound_of r ≡ true → decided r e ≡ Go p → r.count + entries_in p.note ≤ entry_limit
+room_stays : (r : Rack) (e : Event) (p : Plan) → sound_of r ≡ true → decided r e ≡ Ok p → r.count + entries_in p.note ≤ entry_limit
 unfolding applied_of
 room_stays r e p h g = omega (arith, (stays r e p h g).entries)
 
-pub record_next : (r : Rack) (e : Event) (p : Plan) → sound_of r ≡ true → Agrees r → decided r e ≡ Go p → record_of (applied_of r e p) ≡ record_of r ++ added p.note
+pub record_next : (r : Rack) (e : Event) (p : Plan) → sound_of r ≡ true → Agrees r → decided r e ≡ Ok p → record_of (applied_of r e p) ≡ record_of r ++ added p.note
 record_next r e p h a g = applied_adds r e p (omega (arith, a.lines, room_stays r e p h g))
 
 -- record and clients still agree after it
-pub agree_stays : (r : Rack) (e : Event) (p : Plan) → sound_of r ≡ true → Agrees r → EventSmall e → decided r e ≡ Go p → Agrees (applied_of r e p)
+pub agree_stays : (r : Rack) (e : Event) (p : Plan) → sound_of r ≡ true → Agrees r → EventSmall e → decided r e ≡ Ok p → Agrees (applied_of r e p)
 unfolding record_of applied_of
 agree_stays r e p h a v g =
     let k : ℕ = looked_client r e in
@@ -236,8 +235,8 @@ from_agrees done r (suc left) (x ∷ y ∷ z ∷ v ∷ ws) h s a =
   where
     go : (o : Decision) → decided r (event_of x y z v) ≡ o → ((q : Rack) → sound_of q ≡ true → Agrees q → Agrees (run_from (done + 1) q left ws).rack)
         → Agrees (turn done r (event_of x y z v) o (λ q. run_from (done + 1) q left ws)).rack
-    go (No n) e ih = a
-    go (Go p) e ih = ih (applied_of r (event_of x y z v) p) (sound_stays r (event_of x y z v) p s e) (agree_stays r (event_of x y z v) p s a (event_small x y z v (h 3)) e)
+    go (Err n) e ih = a
+    go (Ok p) e ih = ih (applied_of r (event_of x y z v) p) (sound_stays r (event_of x y z v) p s e) (agree_stays r (event_of x y z v) p s a (event_small x y z v (h 3)) e)
 
 pub run_agrees : (r : Rack) (allowance : ℕ) (events : List ℕ) → Words events → sound_of r ≡ true → Agrees r → Agrees (run_of r allowance events).rack
 run_agrees r allowance events h s a = rw (run_from_lem r allowance events) (from_agrees 0 r allowance events h s a)

@@ -1,6 +1,7 @@
 -- A run whose writes differ leaves a record that the judge doesn't refuse.
-use Rattle.std.specs.Prelude.{ℕ, zero, suc, ◌+◌, ◌≡◌, refl, Bool, true, false, cond, ◌||◌, List, [], ◌∷◌, ◌++◌, eqb, ℤ}
+use Rattle.std.specs.Prelude.{ℕ, zero, suc, ◌+◌, ◌≡◌, refl, Bool, true, false, cond, ◌||◌, List, [], ◌∷◌, ◌++◌, eqb, ℤ, None, Some, Err, Ok, Option}
 use Rattle.std.proofs.Common.{ap, sym, ◌∙◌, append-nil, arith}
+use Rattle.refusal.specs.declared.Refusal.TheVariants.{AskedAgain}
 use Rattle.number.specs.Value.{alternating_of}
 use Rattle.record.specs.declared.Client.{Client}
 use Rattle.record.specs.declared.Entry.{Entry}
@@ -13,8 +14,6 @@ use Rattle.verdict.specs.Verdict.{asks_for, asked_among, repeats, distinct_from,
 use Rattle.verdict.specs.laws.OnlyOne.{lawful_exactly}
 use Rattle.stamps.specs.declared.Pair.{Pair}
 use Rattle.method.specs.declared.Message.{Message}
-use Rattle.method.specs.declared.InSlot.{InSlot as Slotted}
-use Rattle.method.specs.declared.InSlot.TheVariants.{Empty, Full}
 use Rattle.method.specs.declared.Goal.{Goal}
 use Rattle.method.specs.declared.Goal.TheVariants.{Read, Write}
 use Rattle.rack.specs.declared.Rack.{Rack}
@@ -24,8 +23,7 @@ use Rattle.method.specs.declared.Event.TheVariants.{StartRead, StartWrite, Deliv
 use Rattle.method.specs.declared.Note.{Note}
 use Rattle.method.specs.declared.Note.TheVariants.{Nothing, Asked, Ended}
 use Rattle.method.specs.declared.Plan.{Plan}
-use Rattle.method.specs.declared.Decision.{Decision}
-use Rattle.method.specs.declared.Decision.TheVariants.{No, Go}
+use Rattle.method.specs.Decision.{Decision}
 use Rattle.method.specs.Holding.{last_entry}
 use Rattle.method.specs.Method.{Delivers, Does}
 use Rattle.method.specs.Method.Delivers.{tells, takes, hears, chooses, counts, ends, spends}
@@ -62,7 +60,7 @@ unfolding distinct_from
 distinct_clear earlier n [] whole p = tt
 distinct_clear earlier n (e ∷ es) whole p = go (repeats earlier e) refl p (distinct_clear (e ∷ earlier) (n + 1) es whole)
   where
-    go : (t : Bool) → repeats earlier e ≡ t → cond t (fault 29 n) (distinct_from (e ∷ earlier) (n + 1) es (entries whole)) ≡ entries whole
+    go : (t : Bool) → repeats earlier e ≡ t → cond t (fault AskedAgain n) (distinct_from (e ∷ earlier) (n + 1) es (entries whole)) ≡ entries whole
         → (distinct_from (e ∷ earlier) (n + 1) es (entries whole) ≡ entries whole → Clear (e ∷ earlier) es) → (repeats earlier e ≡ false) × Clear (e ∷ earlier) es
     go true q r ih = absurd (let z : ◌≡◌ {A = ℕ} 0 1 = cc in omega arith)
     go false q r ih = (q, ih r)
@@ -163,16 +161,16 @@ deliver_adds s m p (ends x) = rw x.plan (last_adds x.counted.operation.goal m.cl
 deliver_adds s m p (spends x) = rw x.plan
 
 -- a start write adds its write, and nothing else adds one
-plan_adds : (s : Sight) (held : Slotted) (e : Event) (p : Plan) → Does s held e p → writes_in p.note ≡ writes_by e
+plan_adds : (s : Sight) (held : Option Message) (e : Event) (p : Plan) → Does s held e p → writes_in p.note ≡ writes_by e
 unfolding writes_by
 plan_adds s held (StartRead client cell) p x = rw x.plan
 plan_adds s held (StartWrite client cell v) p x = rw x.plan
-plan_adds s Empty (Deliver slot) p x = absurd x
-plan_adds s (Full m) (Deliver slot) p x = deliver_adds s m p x
-plan_adds s Empty (Lose slot) p x = absurd x
-plan_adds s (Full m) (Lose slot) p x = rw x
-plan_adds s Empty (Copy slot) p x = absurd x
-plan_adds s (Full m) (Copy slot) p x = rw x
+plan_adds s None (Deliver slot) p x = absurd x
+plan_adds s (Some m) (Deliver slot) p x = deliver_adds s m p x
+plan_adds s None (Lose slot) p x = absurd x
+plan_adds s (Some m) (Lose slot) p x = rw x
+plan_adds s None (Copy slot) p x = absurd x
+plan_adds s (Some m) (Copy slot) p x = rw x
 plan_adds s held (Resend client) p x = rw x.plan
 plan_adds s held (Stop client) p x = rw x.plan
 plan_adds s held (Off replica) p x = rw x.plan
@@ -186,7 +184,7 @@ ahead_note es rest Nothing a = rw (append-nil es) a
 ahead_note es rest (Asked e) a = ahead_next es rest e a
 ahead_note es rest (Ended e) a = ahead_next es rest e a
 
-ahead_stays : (r : Rack) (e : Event) (p : Plan) (rest : List Entry) → sound_of r ≡ true → Agrees r → decided r e ≡ Go p → Ahead (record_of r) (writes_by e ++ rest)
+ahead_stays : (r : Rack) (e : Event) (p : Plan) (rest : List Entry) → sound_of r ≡ true → Agrees r → decided r e ≡ Ok p → Ahead (record_of r) (writes_by e ++ rest)
     → Ahead (record_of (applied_of r e p)) rest
 ahead_stays r e p rest h a g w =
     let same : writes_in p.note ≡ writes_by e = plan_adds (sight r e) (looked_held r e) e p (decided_does r e p g) in
@@ -206,8 +204,8 @@ from_clear done r (suc left) (x ∷ y ∷ z ∷ v ∷ ws) h s a c =
     go : (o : Decision) → decided r (event_of x y z v) ≡ o
         → ((q : Rack) → sound_of q ≡ true → Agrees q → Ahead (record_of q) (writes_of ws) → Clear [] (record_of (run_from (done + 1) q left ws).rack))
         → Clear [] (record_of (turn done r (event_of x y z v) o (λ q. run_from (done + 1) q left ws)).rack)
-    go (No n) e ih = c.0
-    go (Go p) e ih =
+    go (Err n) e ih = c.0
+    go (Ok p) e ih =
         ih (applied_of r (event_of x y z v) p) (sound_stays r (event_of x y z v) p s e) (agree_stays r (event_of x y z v) p s a (event_small x y z v (h 3)) e)
         (ahead_stays r (event_of x y z v) p (writes_of ws) s a e c)
 
@@ -230,8 +228,8 @@ taken_whole replicas clients cells allowance events h d =
 pub not_refused : (replicas clients cells allowance : ℕ) (events : List ℕ) → Words events → Differ events
     → (k n : ℕ) → ¬ Judges (taken_for (bytes_of (record_of (run_of (made_of (of_sizes replicas clients cells)).rack allowance events).rack))) (says_refused k n)
 not_refused replicas clients cells allowance events h d k n j =
-    let t : entries (record_of (run_of (made_of (of_sizes replicas clients cells)).rack allowance events).rack) ≡ fault k n =
-    sym (taken_whole replicas clients cells allowance events h d) ∙ j in
+    let t : entries (record_of (run_of (made_of (of_sizes replicas clients cells)).rack allowance events).rack) ≡ fault j.0 n =
+    sym (taken_whole replicas clients cells allowance events h d) ∙ j.1.0 in
     let z : ◌≡◌ {A = ℕ} 0 1 = cc in omega arith
 
 -- And by the promise its verdict is lawful, and no other.

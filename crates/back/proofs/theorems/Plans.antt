@@ -1,6 +1,6 @@
 -- What each plan does to the record and to the client: an entry is added only where an operation starts or ends, and it is the one that the client's
 -- work calls for; and every value that a plan leaves is one of 32 bits.
-use Rattle.std.specs.Prelude.{ℕ, ◌<◌, ◌≡◌, refl, true, false, cond}
+use Rattle.std.specs.Prelude.{ℕ, ◌<◌, ◌≡◌, refl, true, false, cond, None, Some, Option}
 use Rattle.std.proofs.Common.{ap, sym, arith, ltb-true}
 use Rattle.std.proofs.Math.Path.{subst}
 use Rattle.std.proofs.Math.Bool.{Bool}
@@ -12,16 +12,11 @@ use Rattle.record.specs.declared.Entry.TheVariants.{ReadAsked, WriteAsked, Told,
 use Rattle.stamps.specs.declared.Pair.{Pair}
 use Rattle.stamps.specs.Stamp.{stamp_less, raised}
 use Rattle.method.specs.declared.Message.{Message}
-use Rattle.method.specs.declared.InSlot.{InSlot}
-use Rattle.method.specs.declared.InSlot.TheVariants.{Empty, Full}
 use Rattle.method.specs.declared.Goal.{Goal}
 use Rattle.method.specs.declared.Goal.TheVariants.{Read, Write}
-use Rattle.method.specs.declared.Holding.{Holding}
-use Rattle.method.specs.declared.Holding.TheVariants.{NoPair, Holds}
 use Rattle.method.specs.declared.Phase.{Phase}
 use Rattle.method.specs.declared.Phase.TheVariants.{Asking, Keeping}
 use Rattle.method.specs.declared.Operation.{Operation}
-use Rattle.method.specs.declared.Work.TheVariants.{Open}
 use Rattle.method.specs.declared.Sight.{Sight}
 use Rattle.method.specs.declared.Event.{Event}
 use Rattle.method.specs.declared.Event.TheVariants.{StartRead, StartWrite, Deliver, Lose, Copy, Resend, Stop, Off, On, Unknown}
@@ -95,10 +90,10 @@ raised_small p q hp hq = go (stamp_less p.stamp q.stamp)
     go true = hq
     go false = hp
 
-holds_small : (held : Holding) (q : Pair) → HoldingSmall held → PairSmall q → PairSmall (holds held q)
+holds_small : (held : Option Pair) (q : Pair) → HoldingSmall held → PairSmall q → PairSmall (holds held q)
 unfolding holds
-holds_small NoPair q h hq = hq
-holds_small (Holds p) q h hq = raised_small p q h hq
+holds_small None q h hq = hq
+holds_small (Some p) q h hq = raised_small p q h hq
 
 chosen_small : (goal : Goal) (client : ℕ) (held chosen : Pair) → GoalSmall goal → PairSmall held → Chosen goal client held chosen → PairSmall chosen
 chosen_small Read client held chosen hg hp k = rw k hp
@@ -129,7 +124,7 @@ module _ (z : Settings) (s : Sight) (work : WorkSmall s.party.work) (here : Pair
   has = open_in s.party.work
 
   -- the values of what is open
-  open_small : (o : Operation) → s.party.work ≡ Open o → GoalSmall o.goal × PhaseSmall o.phase
+  open_small : (o : Operation) → s.party.work ≡ Some o → GoalSmall o.goal × PhaseSmall o.phase
   open_small o w = subst WorkSmall w work
 
   -- ---- start
@@ -189,7 +184,7 @@ module _ (z : Settings) (s : Sight) (work : WorkSmall s.party.work) (here : Pair
   powered_keeps : (k after : ℕ) → Keeps z k has (powered s after)
   powered_keeps k after = record { note = refl; work = work; pair = here; body = tt }
 
-  pub plan_keeps : (held : InSlot) → held_fits z held ≡ true → HeldSmall held → (e : Event) → in_rack z e ≡ true → EventSmall e → (p : Plan) → Does s held e p
+  pub plan_keeps : (held : Option Message) → held_fits z held ≡ true → HeldSmall held → (e : Event) → in_rack z e ≡ true → EventSmall e → (p : Plan) → Does s held e p
       → Keeps z (client_of e held) has p
   unfolding in_rack held_fits client_of client_in
   plan_keeps held hh hs (StartRead client cell) i v p x =
@@ -200,12 +195,12 @@ module _ (z : Settings) (s : Sight) (work : WorkSmall s.party.work) (here : Pair
       let a : Bool = ltb client.0 z.clients in
       let b : Bool = ltb cell.0 z.cells in
       start_keeps client cell (Write w) p (ltb-true _ _ (and_left a b i)) (ltb-true _ _ (and_right a b i)) v x
-  plan_keeps Empty hh hs (Deliver slot) i v p x = absurd x
-  plan_keeps (Full m) hh hs (Deliver slot) i v p x = deliver_keeps m (named z m hh).client hs p x
-  plan_keeps Empty hh hs (Lose slot) i v p x = absurd x
-  plan_keeps (Full m) hh hs (Lose slot) i v p x = subst (Keeps z m.client.0 has) (sym x) (used_keeps m (named z m hh).client hs)
-  plan_keeps Empty hh hs (Copy slot) i v p x = absurd x
-  plan_keeps (Full m) hh hs (Copy slot) i v p x = subst (Keeps z m.client.0 has) (sym x) (record { note = refl; work = work; pair = here; body = hs })
+  plan_keeps None hh hs (Deliver slot) i v p x = absurd x
+  plan_keeps (Some m) hh hs (Deliver slot) i v p x = deliver_keeps m (named z m hh).client hs p x
+  plan_keeps None hh hs (Lose slot) i v p x = absurd x
+  plan_keeps (Some m) hh hs (Lose slot) i v p x = subst (Keeps z m.client.0 has) (sym x) (used_keeps m (named z m hh).client hs)
+  plan_keeps None hh hs (Copy slot) i v p x = absurd x
+  plan_keeps (Some m) hh hs (Copy slot) i v p x = subst (Keeps z m.client.0 has) (sym x) (record { note = refl; work = work; pair = here; body = hs })
   plan_keeps held hh hs (Resend client) i v p x =
       subst (Keeps z client.0 has) (sym x.plan)
       (record { note = refl; work = work; pair = here; body = request_small x.operation.phase (open_small x.operation x.before).1 })

@@ -1,11 +1,13 @@
 -- The lines of a rack and the entries on them.
-use Rattle.std.specs.Prelude.{ℕ, suc, ◌+◌, ◌*◌, ◌≤◌, ◌<◌, ◌≡◌, refl, List, [], ◌∷◌, ◌++◌, map, get_or, set, take, drop, length}
+use Rattle.std.specs.Prelude.{ℕ, suc, ◌+◌, ◌*◌, ◌≤◌, ◌<◌, ◌≡◌, min, refl, List, [], ◌∷◌, ◌++◌, map, get_or, set, take, drop, length}
 use Rattle.std.proofs.Common.{ap, sym, ◌∙◌, append_assoc, append-nil, arith, length-take-le, take_all, take-suc, take-suc-set, take_at}
 use Rattle.std.proofs.lemmas.List.Edits.{sets}
 use Rattle.std.proofs.Math.Seq.{length-sets}
+use Rattle.std.proofs.Math.Nat.{min-eq_left, le-min}
+use Rattle.std.proofs.Math.Decide.{dec_le}
 use Rattle.record.specs.declared.Entry.{Entry}
 use Rattle.rows.specs.Row.{row_of, stored_at}
-use Rattle.record.specs.declared.Answer.{Answer}
+use Rattle.record.specs.Record.{Answer}
 use Rattle.record.specs.Record.{all_of}
 use Rattle.rows.specs.Rows.{rows_of, write_outcome, Leaves}
 use Rattle.rows.specs.laws.RowLaws.{rows_length, stored_in}
@@ -70,6 +72,13 @@ n_long n lines h = entries_long (take n lines) ∙ length-take-le n lines h
 -- a count beyond the last line counts that far
 pub n_beyond : (m n : ℕ) (lines : List Line) → length lines ≤ m → length lines ≤ n → entries_of m lines ≡ entries_of n lines
 n_beyond m n lines h k = ap (map (λ (l : Line). l.entry)) (take_all m lines h ∙ sym (take_all n lines k))
+
+-- nor does a count that is no more than there are places for
+pub n_capped : (m n : ℕ) (lines : List Line) → length lines ≡ m → entries_of (min n m) lines ≡ entries_of n lines
+n_capped m n lines h = elim (dec_le n m) [
+  | yes l ↦ rw (min-eq_left l)
+  | no b ↦ n_beyond (min n m) n lines (le-min (omega (arith, b)) (omega arith)) (omega (arith, b))
+]
 
 -- the record is as long as its count says
 pub count_long : (r : Rack) → r.count ≤ length r.lines → length (record_of r) ≡ r.count

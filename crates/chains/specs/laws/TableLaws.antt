@@ -1,14 +1,10 @@
 -- Laws for callers: which answers of the table are possible.
-use Rattle.std.specs.Prelude.{ℕ, ◌-◌, ◌<◌, ◌≡◌, refl, ◌⊎◌, List, get_or, replicate}
+use Rattle.std.specs.Prelude.{ℕ, ◌-◌, ◌<◌, ◌≡◌, refl, ◌⊎◌, Option, Some, None, List, get_or, replicate}
 use Rattle.std.proofs.Common.{sym, ap, ◌∙◌, inl, inr, ⊎_elim, arith, ext_get_or}
 use Rattle.std.proofs.Math.Decide.{dec_lt, ℕ_discrete}
 use Rattle.std.proofs.lemmas.List.{length-replicate, get_or-replicate}
 use Rattle.std.proofs.Math.ListN.{get_or-eq_default}
 use Rattle.record.specs.Record.{entry_limit}
-use Rattle.chains.specs.declared.Linked.{Linked}
-use Rattle.chains.specs.declared.Linked.TheVariants.{All as all_linked, Again as again_at}
-use Rattle.chains.specs.declared.Write.{Write}
-use Rattle.chains.specs.declared.Write.TheVariants.{At, None}
 use Rattle.chains.specs.Chains.{Asks, Again, NoneAgain}
 use Rattle.chains.specs.Table.{chain_count, Latest, Chained, Empty, Found, Stays, Linking, SameLink}
 
@@ -37,18 +33,18 @@ module _ {kinds cells values : List ℕ} where
       ⊎_elim (λ l. absurd (none q lq (asks_again l a b))) (⊎_elim (λ l. absurd (none p lp (asks_again l b a))) (λ e. e)) (order p q)
 
   -- so a search finds that write and no other
-  pub found_write : {n w c v : ℕ} (r : Write) → Found kinds cells values n c v r → Asks kinds cells values w c v → w < n → NoneAgain kinds cells values n → r ≡ At w
-  found_write (At x) f a l none = let (lx, ax) = f.at x refl in ap At (one_write ax a lx l none)
+  pub found_write : {n w c v : ℕ} (r : Option ℕ) → Found kinds cells values n c v r → Asks kinds cells values w c v → w < n → NoneAgain kinds cells values n → r ≡ Some w
+  found_write (Some x) f a l none = let (lx, ax) = f.at x refl in ap Some (one_write ax a lx l none)
   found_write {n} {w} None f a l none = absurd (f.none refl w l a)
 
   -- and a search has one right answer, whatever the table holds
-  pub one_found : {n c v : ℕ} (r s : Write) → Found kinds cells values n c v r → Found kinds cells values n c v s → r ≡ s
-  one_found (At x) (At y) f g =
+  pub one_found : {n c v : ℕ} (r s : Option ℕ) → Found kinds cells values n c v r → Found kinds cells values n c v s → r ≡ s
+  one_found (Some x) (Some y) f g =
       let (lx, ax) = f.at x refl in
       let (ly, ay) = g.at y refl in
-      ap At (⊎_elim (λ l. absurd (f.latest x refl y l ly ay)) (⊎_elim (λ l. absurd (g.latest y refl x l lx ax)) (λ e. e)) (order x y))
-  one_found (At x) None f g = let (lx, ax) = f.at x refl in absurd (g.none refl x lx ax)
-  one_found None (At y) f g = let (ly, ay) = g.at y refl in absurd (f.none refl y ly ay)
+      ap Some (⊎_elim (λ l. absurd (f.latest x refl y l ly ay)) (⊎_elim (λ l. absurd (g.latest y refl x l lx ax)) (λ e. e)) (order x y))
+  one_found (Some x) None f g = let (lx, ax) = f.at x refl in absurd (g.none refl x lx ax)
+  one_found None (Some y) f g = let (ly, ay) = g.at y refl in absurd (f.none refl y ly ay)
   one_found None None f g = refl
 
   -- the first that asks again is one entry
@@ -81,28 +77,28 @@ module _ {kinds cells values : List ℕ} where
   )
 
   -- linking has one right answer
-  one_linked : {n : ℕ} {was head next head' next' : List ℕ} (r s : Linked) → Linking kinds cells values n was head next r → Linking kinds cells values n was head' next' s
+  one_linked : {n : ℕ} {was head next head' next' : List ℕ} (r s : Option ℕ) → Linking kinds cells values n was head next r → Linking kinds cells values n was head' next' s
       → r ≡ s
-  one_linked all_linked all_linked a b = refl
-  one_linked all_linked (again_at q) a b = let (l, (g, _)) = b.again q refl in absurd ((a.all refl).0 q l g)
-  one_linked (again_at p) all_linked a b = let (l, (g, _)) = a.again p refl in absurd ((b.all refl).0 p l g)
-  one_linked (again_at p) (again_at q) a b = let (_, (g, f)) = a.again p refl in let (_, (h, e)) = b.again q refl in ap again_at (one_first g h f e)
+  one_linked None None a b = refl
+  one_linked None (Some q) a b = let (l, (g, _)) = b.again q refl in absurd ((a.all refl).0 q l g)
+  one_linked (Some p) None a b = let (l, (g, _)) = a.again p refl in absurd ((b.all refl).0 p l g)
+  one_linked (Some p) (Some q) a b = let (_, (g, f)) = a.again p refl in let (_, (h, e)) = b.again q refl in ap Some (one_first g h f e)
 
   -- and leaves one table, in every number of it
-  pub one_link : {n : ℕ} {was head next head' next' : List ℕ} (r s : Linked) → Linking kinds cells values n was head next r → Linking kinds cells values n was head' next' s
+  pub one_link : {n : ℕ} {was head next head' next' : List ℕ} (r s : Option ℕ) → Linking kinds cells values n was head next r → Linking kinds cells values n was head' next' s
       → SameLink r s head head' next next'
   one_link {n} {was} {head} {next} {head'} {next'} r s a b = go r s (one_linked r s a b) a b
     where
-      joined : (x y : Linked) → x ≡ y → (head ≡ head') × (next ≡ next') → SameLink x y head head' next next'
+      joined : (x y : Option ℕ) → x ≡ y → (head ≡ head') × (next ≡ next') → SameLink x y head head' next next'
       joined x y e t = record { answer = e; heads = t.0; nexts = t.1 }
 
-      go : (x y : Linked) → x ≡ y → Linking kinds cells values n was head next x → Linking kinds cells values n was head' next' y → SameLink x y head head' next next'
-      go all_linked y e f g =
+      go : (x y : Option ℕ) → x ≡ y → Linking kinds cells values n was head next x → Linking kinds cells values n was head' next' y → SameLink x y head head' next next'
+      go None y e f g =
           let d = sym e in
-          joined all_linked y e (same_table (f.all refl).1 (g.all d).1 (f.all_stays refl) (g.all_stays d))
-      go (again_at p) y e f g =
+          joined None y e (same_table (f.all refl).1 (g.all d).1 (f.all_stays refl) (g.all_stays d))
+      go (Some p) y e f g =
           let d = sym e in
-          joined (again_at p) y e (same_table (f.begun p refl) (g.begun p d) (f.begun_stays p refl) (g.begun_stays p d))
+          joined (Some p) y e (same_table (f.begun p refl) (g.begun p d) (f.begun_stays p refl) (g.begun_stays p d))
 
 -- in an array of zeros everything is 0, past its end too
 pub zero_at : (n i : ℕ) → ◌≡◌ {A = ℕ} (get_or (replicate n 0) i 0) 0

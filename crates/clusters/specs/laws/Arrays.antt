@@ -1,19 +1,18 @@
 -- What the judge's arrays hold: the record's entries by number, the zones of clusters by their writes' numbers, the last read of zero and
 -- the faults by cell.
-use Rattle.std.specs.Prelude.{ℕ, ◌+◌, ◌*◌, ◌≤◌, ◌<◌, min, ◌≡◌, ◌≢◌, ◌⊎◌, cond, List, eqb, ltb, length, get_or}
+use Rattle.std.specs.Prelude.{ℕ, ◌+◌, ◌*◌, ◌≤◌, ◌<◌, min, ◌≡◌, ◌≢◌, ◌⊎◌, Option, Some, None, cond, List, eqb, ltb, length, get_or}
 use Rattle.record.specs.Record.{entry_limit}
 use Rattle.record.specs.Entry.{cell_limit}
+use Rattle.record.specs.declared.Cell.{Cell}
+use Rattle.chains.specs.declared.Entries.{Entries}
 use Rattle.chains.specs.Chains.{Asks, NoneAgain}
 use Rattle.chains.specs.Table.{Chained}
 
 -- ---- the entries
 
 -- the arrays of a record's entries: kind, cell, value and start of each (Paired of crate pairs)
-pub record Arrays : Type 0 where
-  pub kinds : List ℕ
-  pub cells : List ℕ
-  pub values : List ℕ
-  pub starts : List ℕ
+abbrev pub Arrays : Type 0
+Arrays = Entries
 
 -- the four arrays as one
 abbrev pub arrays : List ℕ → List ℕ → List ℕ → List ℕ → Arrays
@@ -210,3 +209,8 @@ pub record LowestIn (bad : List ℕ) (r : ℕ) : Type 0 where
   pub within : r ≤ cell_limit
   pub below : (c : ℕ) → c < r → get_or bad c 0 ≡ 0
   pub marked : r < cell_limit → get_or bad r 0 ≢ 0
+
+-- a cell's number, 16 where there is none
+abbrev pub cell_or_limit : Option Cell → ℕ
+cell_or_limit (Some c) = c.0
+cell_or_limit None = cell_limit

@@ -1,5 +1,5 @@
 -- The arrays show each entry of a record without a fault: where a write is asked, its cell and value; elsewhere no write.
-use Rattle.std.specs.Prelude.{ℕ, suc, ◌+◌, ◌≤◌, ◌<◌, ◌≡◌, ◌≢◌, ◌⊎◌, Bool, cond, not, ◌&&◌, eqb, ℤ, pos, length}
+use Rattle.std.specs.Prelude.{ℕ, suc, ◌+◌, ◌≤◌, ◌<◌, ◌≡◌, ◌≢◌, ◌⊎◌, Bool, cond, not, ◌&&◌, eqb, ℤ, pos, length, None}
 use Rattle.std.proofs.Math.Path.{refl}
 use Rattle.std.proofs.Common.{sym, ap, ◌∙◌, subst, inl, inr, ⊎_elim, true≢false, arith, add-one, eqb-true}
 use Rattle.std.proofs.Math.Bool.{true, false}
@@ -19,7 +19,7 @@ use Rattle.record.specs.Legal.{Follows, Legal}
 use Rattle.law.specs.Operation.{Op, asked, finished, open_of, note, notes, operations}
 use Rattle.law.specs.Order.{In}
 use Rattle.law.specs.laws.Lists.{in_next}
-use Rattle.law.specs.laws.Steps.{Step, step_of, note_step, note_step_lem, ending, ending_keeps}
+use Rattle.law.specs.laws.Steps.{Step, step_of, note_step, note_step_lem, ending, ending_keeps, no_fault}
 use Rattle.law.specs.Standing.{has}
 use Rattle.law.specs.laws.Steps.Step.{asks, ends}
 use Rattle.law.specs.laws.Operations.{Matches}
@@ -84,16 +84,12 @@ open_client k x e = go (eqb x.client k) refl x.over refl e
     go false p t q h = absurd (true≢false (sym h))
 
 -- a value is told only to a read
-told_read : (st : Standing) (client : _) (v : ℤ) → fault_after st (Told client v) ≡ 0 → has st client.0 ≡ 1
+told_read : (st : Standing) (client : _) (v : ℤ) → fault_after st (Told client v) ≡ None → has st client.0 ≡ 1
 unfolding fault_after
-told_read st client v f = go (eqb (has st client.0) 1) refl f
-  where
-    go : (b : Bool) → eqb (has st client.0) 1 ≡ b → ◌≡◌ {A = ℕ} (cond b 0 27) 0 → has st client.0 ≡ 1
-    go true e f = eqb-true (has st client.0) 1 e
-    go false e f = absurd (omega arith)
+told_read st client v f = eqb-true (has st client.0) 1 (no_fault (eqb (has st client.0) 1) _ f)
 
 -- an operation after one entry more
-stays_next : (st : Standing) (n : ℕ) (e : Entry) (ops : List Op) → fault_after st e ≡ 0 → Matches st ops → (x : Op) → In x ops
+stays_next : (st : Standing) (n : ℕ) (e : Entry) (ops : List Op) → fault_after st e ≡ None → Matches st ops → (x : Op) → In x ops
     → (y : Op) × (In y (note_step n (step_of e) ops) × Stays x y)
 stays_next st n (ReadAsked client cell) ops f t x m = (x, (mem_left (asked n client.0 cell.0 false (pos 0) n ∷ []) m, stays_same x))
 stays_next st n (WriteAsked client cell v) ops f t x m = (x, (mem_left (asked n client.0 cell.0 true v n ∷ []) m, stays_same x))

@@ -1,5 +1,5 @@
 -- Slots in use equal messages sent plus copies, less deliveries, less losses.
-use Rattle.std.specs.Prelude.{ℕ, zero, suc, ◌+◌, ◌≡◌, refl, Bool, true, false, not, List, length, replicate}
+use Rattle.std.specs.Prelude.{ℕ, zero, suc, ◌+◌, ◌≡◌, refl, Bool, true, false, not, List, length, replicate, Ok}
 use Rattle.std.proofs.Common.{ap, ◌∙◌, arith}
 use Rattle.std.proofs.lemmas.List.{length-replicate}
 use Rattle.slots.specs.Free.{digit, count_from}
@@ -7,7 +7,6 @@ use Rattle.rack.specs.declared.Slot.{Slot}
 use Rattle.rack.specs.declared.Rack.{Rack}
 use Rattle.method.specs.declared.Event.{Event}
 use Rattle.method.specs.declared.Plan.{Plan}
-use Rattle.method.specs.declared.Decision.TheVariants.{Go}
 use Rattle.rack.specs.Places.{of_sizes, slot_limit, empty, free_at, room_of}
 use Rattle.rack.specs.Sound.{sound_of}
 use Rattle.rack.specs.Run.{applied_of, fresh_rack, made_of, run_of}
@@ -54,7 +53,7 @@ leaves e p = delivered_by e + lost_by e
 abbrev enters : Event → Plan → ℕ
 enters e p = sent_by e p + copied_by e
 
-event_in_use : (r : Rack) (e : Event) (p : Plan) → Wired r → decided r e ≡ Go p → Adds Wired used_in leaves enters r e p
+event_in_use : (r : Rack) (e : Event) (p : Plan) → Wired r → decided r e ≡ Ok p → Adds Wired used_in leaves enters r e p
 event_in_use r e p w g =
     let c = decided_counts r e p w.0 g in
     let a = room_after r e p (decided_fits r e p w.0 g) w.1 in

@@ -1,5 +1,5 @@
 -- What each plan adds to the counts: the slot that it frees, the messages that it sends, the requests among them and the entry that ends an operation.
-use Rattle.std.specs.Prelude.{ℕ, ◌+◌, ◌≤◌, ◌<◌, ◌≡◌, false}
+use Rattle.std.specs.Prelude.{ℕ, ◌+◌, ◌≤◌, ◌<◌, ◌≡◌, false, None, Some, Ok, Option}
 use Rattle.std.proofs.Math.Path.{refl, sym, subst}
 use Rattle.std.proofs.Common.{ap, ◌∙◌, arith, eq-eqb, ne_eqb}
 use Rattle.std.proofs.Math.Bool.{true}
@@ -12,15 +12,11 @@ use Rattle.stamps.specs.declared.Pair.{Pair}
 use Rattle.method.specs.declared.Body.{Body}
 use Rattle.method.specs.declared.Body.TheVariants.{Ask, Tell, Keep, Kept}
 use Rattle.method.specs.declared.Message.{Message}
-use Rattle.method.specs.declared.InSlot.{InSlot}
-use Rattle.method.specs.declared.InSlot.TheVariants.{Empty, Full}
 use Rattle.method.specs.declared.Goal.{Goal}
 use Rattle.method.specs.declared.Goal.TheVariants.{Read, Write}
 use Rattle.method.specs.declared.Phase.{Phase}
 use Rattle.method.specs.declared.Phase.TheVariants.{Asking, Keeping}
 use Rattle.method.specs.declared.Operation.{Operation}
-use Rattle.method.specs.declared.Work.{Work}
-use Rattle.method.specs.declared.Work.TheVariants.{Idle, Open}
 use Rattle.method.specs.declared.Party.{Party}
 use Rattle.method.specs.declared.Sight.{Sight}
 use Rattle.method.specs.declared.Event.{Event}
@@ -28,7 +24,6 @@ use Rattle.method.specs.declared.Event.TheVariants.{StartRead, StartWrite, Deliv
 use Rattle.method.specs.declared.Note.{Note}
 use Rattle.method.specs.declared.Note.TheVariants.{Nothing, Asked, Ended}
 use Rattle.method.specs.declared.Plan.{Plan}
-use Rattle.method.specs.declared.Decision.TheVariants.{Go}
 use Rattle.method.specs.Holding.{first_entry, last_entry}
 use Rattle.method.specs.Plan.{to_replicas, used_up, answered, powered, planned, active_party, request}
 use Rattle.method.specs.Method.{Starts, Delivers, Copies, Resends, Stops, Does}
@@ -70,11 +65,11 @@ first_none Read client cell c = refl
 first_none (Write v) client cell c = refl
 
 -- an operation that is open costs what its phase does, and owes an answer
-open_cost : (n : ℕ) (w : Work) (o : Operation) (ph : Phase) → w ≡ Open o → o.phase ≡ ph → cost_in n w ≡ phase_cost n ph
+open_cost : (n : ℕ) (w : Option Operation) (o : Operation) (ph : Phase) → w ≡ Some o → o.phase ≡ ph → cost_in n w ≡ phase_cost n ph
 unfolding cost_in
 open_cost n w o ph e q = ap (cost_in n) e ∙ ap (phase_cost n) q
 
-open_owes : (w : Work) (o : Operation) → w ≡ Open o → owes w ≡ 1
+open_owes : (w : Option Operation) (o : Operation) → w ≡ Some o → owes w ≡ 1
 unfolding owes
 open_owes w o e = ap owes e
 
@@ -153,8 +148,8 @@ module _ (s : Sight) (few : s.quorums.replicas ≤ set_bits) where
         quiet m.client.0 e (used_up s m) (sym d) (omega (arith, none_count, z, c)) refl refl refl refl (λ c k. silent c k e (used_up s m) z)
 
     -- the client is in the same phase, with another set
-    stays_counts : (slot : ℕ) (o : Operation) → cost_in n (Open o) ≡ cost_in n party.work → owes (Open o) ≡ owes party.work
-        → PlanCounts n m.client.0 party (Deliver slot) (planned s (active_party party.op (Open o)) true Nothing m 0)
+    stays_counts : (slot : ℕ) (o : Operation) → cost_in n (Some o) ≡ cost_in n party.work → owes (Some o) ≡ owes party.work
+        → PlanCounts n m.client.0 party (Deliver slot) (planned s (active_party party.op (Some o)) true Nothing m 0)
     unfolding freed delivered_by lost_by sent_by copied_by
     stays_counts slot o c w =
         let z : ones 0 ≡ 0 = none_count in
@@ -192,7 +187,7 @@ module _ (s : Sight) (few : s.quorums.replicas ≤ set_bits) where
         let y = x.counted in
         let z : ones 0 ≡ 0 = none_count in
         let goal : Goal = y.operation.goal in
-        let q : Plan = planned s (active_party party.op Idle) true (Ended (last_entry goal m.client y.held)) m 0 in
+        let q : Plan = planned s (active_party party.op None) true (Ended (last_entry goal m.client y.held)) m 0 in
         subst (PlanCounts n m.client.0 party (Deliver slot)) (sym x.plan)
         (record {
           clears = refl;
@@ -244,17 +239,17 @@ module _ (s : Sight) (few : s.quorums.replicas ≤ set_bits) where
 
   -- ---- every event
 
-  pub plan_counts : (held : InSlot) → ((m : Message) → held ≡ Full m → m.replica.0 < set_bits) → (e : Event) (p : Plan) → Does s held e p
+  pub plan_counts : (held : Option Message) → ((m : Message) → held ≡ Some m → m.replica.0 < set_bits) → (e : Event) (p : Plan) → Does s held e p
       → PlanCounts n (client_of e held) party e p
   unfolding client_of client_in delivered_by lost_by sent_by copied_by resent_by
   plan_counts held h (StartRead client cell) p x = start_counts (StartRead client cell) client cell Read p x refl refl (λ q. refl) (λ c k q. refl)
   plan_counts held h (StartWrite client cell v) p x = start_counts (StartWrite client cell v) client cell (Write v) p x refl refl (λ q. refl) (λ c k q. refl)
-  plan_counts Empty h (Deliver slot) p x = absurd x
-  plan_counts (Full m) h (Deliver slot) p x = deliver_counts m (h m refl) slot p x
-  plan_counts Empty h (Lose slot) p x = absurd x
-  plan_counts (Full m) h (Lose slot) p x = subst (PlanCounts n m.client.0 party (Lose slot)) (sym x) (used_counts m (h m refl) (Lose slot) refl refl)
-  plan_counts Empty h (Copy slot) p x = absurd x
-  plan_counts (Full m) h (Copy slot) p x = copy_counts m (h m refl) slot p x
+  plan_counts None h (Deliver slot) p x = absurd x
+  plan_counts (Some m) h (Deliver slot) p x = deliver_counts m (h m refl) slot p x
+  plan_counts None h (Lose slot) p x = absurd x
+  plan_counts (Some m) h (Lose slot) p x = subst (PlanCounts n m.client.0 party (Lose slot)) (sym x) (used_counts m (h m refl) (Lose slot) refl refl)
+  plan_counts None h (Copy slot) p x = absurd x
+  plan_counts (Some m) h (Copy slot) p x = copy_counts m (h m refl) slot p x
   plan_counts held h (Resend client) p x = resend_counts client p x
   plan_counts held h (Stop client) p x = stop_counts client.0 client p x
   plan_counts held h (Off replica) p x = subst (PlanCounts n 0 party (Off replica)) (sym x.plan) (powered_counts 0 (Off replica) _ refl refl)
@@ -264,12 +259,12 @@ module _ (s : Sight) (few : s.quorums.replicas ≤ set_bits) where
 -- ---- an event that is done
 
 -- its message is to or from a replica of the rack
-held_replica : (z : Settings) (held : InSlot) (m : Message) → held_fits z held ≡ true → held ≡ Full m → m.replica.0 < z.replicas
+held_replica : (z : Settings) (held : Option Message) (m : Message) → held_fits z held ≡ true → held ≡ Some m → m.replica.0 < z.replicas
 unfolding held_fits
 held_replica z held m h e = (named z m (ap (held_fits z) (sym e) ∙ h)).replica
 
 -- what is done adds what plans add
-pub decided_counts : (r : Rack) (e : Event) (p : Plan) → sound_of r ≡ true → decided r e ≡ Go p
+pub decided_counts : (r : Rack) (e : Event) (p : Plan) → sound_of r ≡ true → decided r e ≡ Ok p
     → PlanCounts r.settings.replicas (looked_client r e) (looked_party r e) e p
 decided_counts r e p h g =
     let s : Sound r = sound_of_lem r h in

@@ -1,14 +1,13 @@
 -- A finished operation has cost 2 requests per replica, plus its resends.
-use Rattle.std.specs.Prelude.{ℕ, suc, ◌+◌, ◌*◌, ◌≤◌, ◌<◌, ◌≡◌, refl, Bool, true, false, cond, List, [], ◌∷◌, ◌++◌, map, ltb, eqb, get_or, set, take, length, replicate}
+use Rattle.std.specs.Prelude.{ℕ, suc, ◌+◌, ◌*◌, ◌≤◌, ◌<◌, ◌≡◌, refl, Bool, true, false, cond, List, [], ◌∷◌, ◌++◌, map, ltb, eqb, get_or, set, take, length, replicate, None, Some, Ok, Option}
 use Rattle.std.proofs.Common.{ap, sym, ◌∙◌, subst, arith, length-set, get_or-set_same, get_or-set_other, take-suc-set, le-ltb, eq-eqb, ne_eqb, ltb-true, ltb-false, eqb-true}
 use Rattle.std.proofs.lemmas.List.{length-replicate, get_or-replicate}
 use Rattle.std.proofs.Math.ListN.{get_or-eq_default}
 use Rattle.std.proofs.lemmas.Bool.{eqb-false}
+use Rattle.method.specs.declared.Operation.{Operation}
 use Rattle.record.specs.declared.Entry.{Entry}
 use Rattle.record.specs.Entry.{client_limit}
 use Rattle.record.specs.Record.{entry_limit}
-use Rattle.method.specs.declared.Work.{Work}
-use Rattle.method.specs.declared.Work.TheVariants.{Idle, Open}
 use Rattle.method.specs.declared.Party.{Party}
 use Rattle.rack.specs.declared.Line.{Line}
 use Rattle.rack.specs.declared.Rack.{Rack}
@@ -16,7 +15,6 @@ use Rattle.method.specs.declared.Event.{Event}
 use Rattle.method.specs.declared.Note.{Note}
 use Rattle.method.specs.declared.Note.TheVariants.{Nothing, Asked, Ended}
 use Rattle.method.specs.declared.Plan.{Plan}
-use Rattle.method.specs.declared.Decision.TheVariants.{Go}
 use Rattle.rack.specs.Places.{of_sizes, blank, idle, party_at, record_of}
 use Rattle.rack.specs.Sound.{owes, sound_of}
 use Rattle.rack.specs.Run.{recorded, entries_in, applied_of, fresh_rack}
@@ -67,7 +65,7 @@ applied_lines : (r : Rack) (e : Event) (p : Plan) → length (applied_of r e p).
 unfolding applied_of
 applied_lines r e p = lines_long p.note r.count r.lines
 
-applied_ends : (c : ℕ) (r : Rack) (e : Event) (p : Plan) → sound_of r ≡ true → decided r e ≡ Go p → length r.lines ≡ entry_limit
+applied_ends : (c : ℕ) (r : Rack) (e : Event) (p : Plan) → sound_of r ≡ true → decided r e ≡ Ok p → length r.lines ≡ entry_limit
     → ends_of c (record_of (applied_of r e p)) ≡ ends_of c (record_of r) + ends_in c p.note
 unfolding record_of applied_of
 applied_ends c r e p h g l = ends_noted c p.note r.count r.lines (omega (arith, (stays r e p h g).entries, l))
@@ -108,7 +106,7 @@ module _ (n c k : ℕ) where
   abbrev Added : Rack → Event → Plan → Type 0
   Added r e p = Adds (Numbered n c) cost_at (resent_by c k) (requests_by c k) r e p
 
-  numbered : (r : Rack) (e : Event) (p : Plan) → Numbered n c r → decided r e ≡ Go p
+  numbered : (r : Rack) (e : Event) (p : Plan) → Numbered n c r → decided r e ≡ Ok p
       → ends_of c (record_of r) + ends_in c p.note + owes (party_at (applied_of r e p) c).work ≡ (party_at (applied_of r e p) c).op → Numbered n c (applied_of r e p)
   numbered r e p i g h =
       record {
@@ -119,7 +117,7 @@ module _ (n c k : ℕ) where
         ends = omega (arith, applied_ends c r e p i.sound g i.lines_long, h);
       }
 
-  event_costs : (r : Rack) (e : Event) (p : Plan) → Numbered n c r → decided r e ≡ Go p → Added r e p
+  event_costs : (r : Rack) (e : Event) (p : Plan) → Numbered n c r → decided r e ≡ Ok p → Added r e p
   event_costs r e p i g = go (eqb (looked_client r e) c) refl
     where
       d : PlanCounts n (looked_client r e) (looked_party r e) e p
@@ -186,9 +184,9 @@ ended_cost : (n : ℕ) (party : Party) (ended k : ℕ) → ended + owes party.wo
 unfolding cost_of cost_in owes
 ended_cost n party ended k h l = go (ltb k party.op) refl
   where
-    finished : (w : Work) → owes w ≡ 0 → cost_in n w ≡ 2 * n
-    finished Idle e = refl
-    finished (Open o) e = absurd (omega arith)
+    finished : (w : Option Operation) → owes w ≡ 0 → cost_in n w ≡ 2 * n
+    finished None e = refl
+    finished (Some o) e = absurd (omega arith)
 
     go : (t : Bool) → ltb k party.op ≡ t → cond t (2 * n) (cond (eqb k party.op) (cost_in n party.work) 0) ≡ 2 * n
     go true e = refl

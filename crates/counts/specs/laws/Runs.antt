@@ -1,13 +1,12 @@
 -- From one event to a run: what every done event keeps and adds, a run keeps and adds up.
 use Prim.Native.Nat.{ℕ, zero, suc, ◌+◌}
-use Rattle.std.specs.Prelude.{◌≡◌, true, false}
+use Rattle.std.specs.Prelude.{◌≡◌, true, false, Err, Ok}
 use Rattle.std.proofs.Math.Path.{refl, ap, subst}
 use Rattle.std.proofs.Common.{sym, ◌∙◌, arith}
 use mathlib.Core.List.{List, [], ◌∷◌}
 use Rattle.method.specs.declared.Event.{Event}
 use Rattle.method.specs.declared.Plan.{Plan}
-use Rattle.method.specs.declared.Decision.{Decision}
-use Rattle.method.specs.declared.Decision.TheVariants.{No, Go}
+use Rattle.method.specs.Decision.{Decision}
 use Rattle.rack.specs.declared.Rack.{Rack}
 use Rattle.rack.specs.declared.Ran.{Ran}
 use Rattle.rack.specs.declared.Made.{Made}
@@ -34,8 +33,8 @@ both_over f g (suc left) r (k ∷ a ∷ b ∷ v ∷ ws) = go (decided r (event_o
     go : (o : Decision) → ((q : Rack) → count_over (λ e p. f e p + g e p) left q ws ≡ count_over f left q ws + count_over g left q ws)
         → counted (λ e p. f e p + g e p) r (event_of k a b v) o (λ q. count_over (λ e p. f e p + g e p) left q ws)
         ≡ counted f r (event_of k a b v) o (λ q. count_over f left q ws) + counted g r (event_of k a b v) o (λ q. count_over g left q ws)
-    go (No n) ih = refl
-    go (Go p) ih = omega (arith, ih (applied_of r (event_of k a b v) p))
+    go (Err n) ih = refl
+    go (Ok p) ih = omega (arith, ih (applied_of r (event_of k a b v) p))
 
 pub both : (f g : Event → Plan → ℕ) (r : Rack) (allowance : ℕ) (ws : List ℕ)
     → total_of (λ e p. f e p + g e p) r allowance ws ≡ total_of f r allowance ws + total_of g r allowance ws
@@ -49,7 +48,7 @@ pub record Adds (I : Rack → Type 0) (v : Rack → ℕ) (less more : Event → 
   pub keeps : I (applied_of r e p)
   pub adds : v (applied_of r e p) + less e p ≡ v r + more e p
 
-module _ (I : Rack → Type 0) (v : Rack → ℕ) (less more : Event → Plan → ℕ) (step : (r : Rack) (e : Event) (p : Plan) → I r → decided r e ≡ Go p → Adds I v less more r e p) where
+module _ (I : Rack → Type 0) (v : Rack → ℕ) (less more : Event → Plan → ℕ) (step : (r : Rack) (e : Event) (p : Plan) → I r → decided r e ≡ Ok p → Adds I v less more r e p) where
   from_adds : (done : ℕ) (r : Rack) (left : ℕ) (ws : List ℕ) → I r
       → I (run_from done r left ws).rack × (v (run_from done r left ws).rack + count_over less left r ws ≡ v r + count_over more left r ws)
   unfolding run_from turn count_over counted
@@ -65,8 +64,8 @@ module _ (I : Rack → Type 0) (v : Rack → ℕ) (less more : Event → Plan �
           → I (turn done r (event_of k a b w) o (λ q. run_from (done + 1) q left ws)).rack
           × (v (turn done r (event_of k a b w) o (λ q. run_from (done + 1) q left ws)).rack + counted less r (event_of k a b w) o (λ q. count_over less left q ws)
           ≡ v r + counted more r (event_of k a b w) o (λ q. count_over more left q ws))
-      go (No n) e ih = (i, refl)
-      go (Go p) e ih =
+      go (Err n) e ih = (i, refl)
+      go (Ok p) e ih =
           let s = step r (event_of k a b w) p i e in
           let t = ih (applied_of r (event_of k a b w) p) s.keeps in
           (t.0, omega (arith, s.adds, t.1))

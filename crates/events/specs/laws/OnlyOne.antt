@@ -1,16 +1,15 @@
 -- Events: no other outcome fits a call, and wrong ones do not meet its contract. Those of `decode` stand in crate rack, where an edit of what four words mean
 -- is refused by them.
-use Rattle.std.specs.Prelude.{ℕ, ◌+◌, ◌-◌, ◌≡◌, Bool, true, false, List}
+use Rattle.std.specs.Prelude.{ℕ, ◌+◌, ◌-◌, ◌≡◌, Bool, true, false, List, Some}
 use Rattle.std.proofs.Common.{ap, arith}
 use Rattle.std.specs.Int.Count.{ones}
 use Rattle.record.specs.Record.{entry_limit}
 use Rattle.rack.specs.Places.{slot_limit}
 use Rattle.record.specs.declared.Entry.TheVariants.{Done}
-use Rattle.method.specs.declared.InSlot.TheVariants.{Full}
 use Rattle.method.specs.declared.Event.TheVariants.{StartRead, Deliver, Stop}
 use Rattle.method.specs.declared.Note.TheVariants.{Nothing, Asked}
 use Rattle.method.specs.declared.Party.{Party}
-use Rattle.method.specs.declared.Decision.{Decision}
+use Rattle.method.specs.Decision.{Decision}
 use Rattle.method.specs.About.{client_in, client_of}
 use Rattle.rack.specs.Sound.{owed_in}
 use Rattle.rack.specs.Refusals.{noted, freed, checked}
@@ -45,20 +44,20 @@ unfolding slot_of
 not_next_slot r p q = omega arith
 
 -- the pair of replica 2 for cell 3 stands at 35, that of replica 3 for cell 2 at 50
-pub not_swapped : (r : ℕ) → r ≡ place_in (Full message) → r ≡ 50 → ⊥
+pub not_swapped : (r : ℕ) → r ≡ place_in (Some message) → r ≡ 50 → ⊥
 unfolding place_in
 not_swapped r p q = omega arith
 
-pub not_first_place : (r : ℕ) → r ≡ place_in (Full message) → r ≡ 0 → ⊥
+pub not_first_place : (r : ℕ) → r ≡ place_in (Some message) → r ≡ 0 → ⊥
 unfolding place_in
 not_first_place r p q = omega arith
 
 -- a stop is about the client it names, a delivery about its message's
-pub not_the_message : (r : ℕ) → r ≡ client_of (Stop (record { 0 = 0 })) (Full message) → r ≡ 1 → ⊥
+pub not_the_message : (r : ℕ) → r ≡ client_of (Stop (record { 0 = 0 })) (Some message) → r ≡ 1 → ⊥
 unfolding client_of
 not_the_message r p q = omega arith
 
-pub not_the_slot : (r : ℕ) → r ≡ client_of (Deliver 7) (Full message) → r ≡ 7 → ⊥
+pub not_the_slot : (r : ℕ) → r ≡ client_of (Deliver 7) (Some message) → r ≡ 7 → ⊥
 unfolding client_of client_in
 not_the_slot r p q = omega arith
 

@@ -5,12 +5,12 @@ use Rattle.exports.specs.Unpacked.{AnswerFits}
 use Rattle.exports.proofs.packed.Goals as goal
 
 pub overflow_add-result : goal.overflow_add-result
-overflow_add-result c = let h = (subst AnswerFits c.in-Refused.is c.requires).2 in omega arith
+overflow_add-result c = let h = (subst AnswerFits c.in-Err.is c.requires).2 in omega arith
 
-pub returns-in-All : goal.returns-in-All
+pub returns-in-Ok : goal.returns-in-Ok
 unfolding packed_answer
-returns-in-All c = sym (ap packed_answer c.in-All.is)
+returns-in-Ok c = sym (ap packed_answer c.in-Ok.is)
 
-pub returns-in-Refused : goal.returns-in-Refused
+pub returns-in-Err : goal.returns-in-Err
 unfolding packed_answer
-returns-in-Refused c = sym (ap packed_answer c.in-Refused.is)
+returns-in-Err c = rw (c.from.ensures, c.number.ensures) (sym (ap packed_answer c.in-Err.is))

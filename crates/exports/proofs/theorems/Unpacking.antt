@@ -1,16 +1,16 @@
 -- A packed answer alone gives the caller the whole answer back, for every call and every input; and two answers that differ are packed into two numbers.
-use Rattle.std.specs.Prelude.{ℕ, ◌+◌, ◌-◌, ◌*◌, ◌^◌, ◌<◌, ◌≡◌, refl, cond, false, List, eqb}
+use Rattle.std.specs.Prelude.{ℕ, ◌+◌, ◌-◌, ◌*◌, ◌^◌, ◌<◌, ◌≡◌, refl, cond, false, List, eqb, Ok, Err, Some, None, Option}
 use Rattle.std.proofs.Common.{ap, sym, ◌∙◌, subst, arith, ne_eqb}
 use Rattle.number.specs.Number.{number_bytes, number_at, put_answer}
 use Rattle.number.specs.Answers.{refusal_of, number_in, next_in, put_refusal_of, put_next_in}
-use Rattle.number.specs.declared.Number.{Number}
-use Rattle.number.specs.declared.Number.TheVariants.{Is, Refused}
-use Rattle.number.specs.declared.Put.{Put}
-use Rattle.number.specs.declared.Put.TheVariants.{Next, NoRoom}
+use Rattle.refusal.specs.declared.Refusal.{Refusal}
+use Rattle.refusal.specs.declared.Refusal.TheVariants.{SizeOutOfRange, Unsound, Unknown, SlotEmpty, ClientStopped, AlreadyOpen, NoneOpen, ReplicaOff, SwitchedSo, OpSpent, RecordFull, NumberSpent, WireFull}
+use Rattle.refusal.specs.declared.Refusal.TheVariants.{UnknownCode, TooShort, EndsFirst, LastIsZero, FifthAbove, KindAbove, FieldAbove, AskedWhileOpen, EndedUnasked, TooMany, AskedAgain}
+use Rattle.refusal.specs.Number.{paper_number}
+use Rattle.number.specs.Number.{Number}
 use Rattle.number.specs.Below.{Bytes, Words}
 use Rattle.record.specs.Answers.{refusal_in, entry_in, count_in}
-use Rattle.record.specs.declared.Answer.{Answer}
-use Rattle.record.specs.declared.Answer.TheVariants.{All, Refused as Unread}
+use Rattle.record.specs.Record.{Answer}
 use Rattle.rows.specs.Rows.{read_outcome, write_outcome}
 use Rattle.verdict.specs.Verdict.{taken_for, Judges}
 use Rattle.verdict.specs.Answers.{case_of, refusal_in as refusal_by, entry_in as entry_by, cell_in}
@@ -19,7 +19,7 @@ use Rattle.verdict.specs.declared.Verdict.TheVariants.{Lawful as says_lawful, Un
 use Rattle.layout.specs.declared.WordsAnswer.{WordsAnswer}
 use Rattle.layout.specs.Calls.{made_outcome, run_outcome}
 use Rattle.exports.specs.Packed.{packed_number, packed_put, packed_answer, packed_verdict, Judged, packed_run}
-use Rattle.exports.specs.Unpacked.{number_of_packed, refusal_of_packed, count_of_packed, Parts, unpacked_number, unpacked_put, unpacked_answer, unpacked_verdict, unpacked_run}
+use Rattle.exports.specs.Unpacked.{number_of_packed, refusal_of_packed, count_of_packed, Parts, refusal_named, unpacked_number, unpacked_put, unpacked_answer, unpacked_verdict, unpacked_run}
 use Rattle.exports.specs.Unpacked.{NumberFits, PutFits, AnswerFits, VerdictFits, RunFits}
 use Rattle.exports.specs.laws.Bounds.{number_fits, put_fits_bits, read_fits, write_fits, verdict_fits, made_fits, run_fits}
 
@@ -32,18 +32,18 @@ parts_of r k n c h g f e = record { refused = omega arith; numbered = omega arit
 -- the parts of an answer that fits
 pub number_parts : (at : ℕ) (a : Number) → NumberFits at a → Parts (packed_number at a) (refusal_of a) (number_in a) (next_in a - at)
 unfolding packed_number refusal_of number_in next_in
-number_parts at (Is n next) h = parts_of _ 0 n (next - at) h.0 (omega arith) (omega (arith, h.2)) (omega arith)
-number_parts at (Refused k) h = parts_of _ k 0 (0 - at) (omega arith) (omega (arith, h.1)) (omega arith) (omega arith)
+number_parts at (Ok (n, next)) h = parts_of _ 0 n (next - at) h.0 (omega arith) (omega (arith, h.2)) (omega arith)
+number_parts at (Err k) h = parts_of _ (paper_number k) 0 (0 - at) (omega arith) (omega (arith, h.1)) (omega arith) (omega arith)
 
-pub put_parts : (at : ℕ) (a : Put) → PutFits at a → Parts (packed_put at a) (put_refusal_of a) 0 (put_next_in a - at)
+pub put_parts : (at : ℕ) (a : Option ℕ) → PutFits at a → Parts (packed_put at a) (put_refusal_of a) 0 (put_next_in a - at)
 unfolding packed_put put_refusal_of put_next_in
-put_parts at (Next next) h = parts_of _ 0 0 (next - at) (omega arith) (omega arith) (omega (arith, h.1)) (omega arith)
-put_parts at NoRoom h = parts_of _ 20 0 (0 - at) (omega arith) (omega arith) (omega arith) (omega arith)
+put_parts at (Some next) h = parts_of _ 0 0 (next - at) (omega arith) (omega arith) (omega (arith, h.1)) (omega arith)
+put_parts at None h = parts_of _ 20 0 (0 - at) (omega arith) (omega arith) (omega arith) (omega arith)
 
 pub answer_parts : (a : Answer) → AnswerFits a → Parts (packed_answer a) (refusal_in a) (count_in a + entry_in a) 0
 unfolding packed_answer refusal_in count_in entry_in
-answer_parts (All n) h = parts_of _ 0 (n + 0) 0 (omega arith) (omega arith) (omega arith) (omega arith)
-answer_parts (Unread k n) h = parts_of _ k (0 + n) 0 (omega (arith, h.2)) (omega (arith, h.1)) (omega arith) (omega arith)
+answer_parts (Ok n) h = parts_of _ 0 (n + 0) 0 (omega arith) (omega arith) (omega arith) (omega arith)
+answer_parts (Err (k, n)) h = parts_of _ (paper_number k) (0 + n) 0 (omega (arith, h.2)) (omega (arith, h.1)) (omega arith) (omega arith)
 
 pub verdict_parts : (v : Verdict) → VerdictFits v → Parts (packed_verdict v) (refusal_by v) (entry_by v) (cond (eqb (case_of v) 1) (cell_in v + 1) 0)
 unfolding packed_verdict refusal_by entry_by cell_in case_of
@@ -58,15 +58,15 @@ run_parts a h = parts_of _ a.refusal a.done 0 h.1 (omega (arith, h.0)) (omega ar
 -- ---- the answers
 
 -- what is taken apart, by the parts
-number_from : (at r k n c : ℕ) → Parts r k n c → unpacked_number at r ≡ cond (eqb k 0) (Is n (at + c)) (Refused k)
+number_from : (at r k n c : ℕ) → Parts r k n c → unpacked_number at r ≡ cond (eqb k 0) (Ok (n, at + c)) (Err (refusal_named k))
 unfolding unpacked_number
 number_from at r k n c w = rw (w.refused, w.numbered, w.counted)
 
-put_from : (at r k n c : ℕ) → Parts r k n c → unpacked_put at r ≡ cond (eqb k 0) (Next (at + c)) NoRoom
+put_from : (at r k n c : ℕ) → Parts r k n c → unpacked_put at r ≡ cond (eqb k 0) (Some (at + c)) None
 unfolding unpacked_put
 put_from at r k n c w = rw (w.refused, w.counted)
 
-answer_from : (r k n c : ℕ) → Parts r k n c → unpacked_answer r ≡ cond (eqb k 0) (All n) (Unread k n)
+answer_from : (r k n c : ℕ) → Parts r k n c → unpacked_answer r ≡ cond (eqb k 0) (Ok n) (Err (refusal_named k, n))
 unfolding unpacked_answer
 answer_from r k n c w = rw (w.refused, w.numbered)
 
@@ -75,6 +75,34 @@ verdict_from : (r k n c : ℕ) → Parts r k n c
 unfolding unpacked_verdict
 verdict_from r k n c w = rw (w.refused, w.numbered, w.counted)
 
+-- a refusal is that of its number
+named_back : (r : Refusal) → refusal_named (paper_number r) ≡ r
+unfolding refusal_named paper_number
+named_back SizeOutOfRange = refl
+named_back Unsound = refl
+named_back Unknown = refl
+named_back SlotEmpty = refl
+named_back ClientStopped = refl
+named_back AlreadyOpen = refl
+named_back NoneOpen = refl
+named_back ReplicaOff = refl
+named_back SwitchedSo = refl
+named_back OpSpent = refl
+named_back RecordFull = refl
+named_back NumberSpent = refl
+named_back WireFull = refl
+named_back UnknownCode = refl
+named_back TooShort = refl
+named_back EndsFirst = refl
+named_back LastIsZero = refl
+named_back FifthAbove = refl
+named_back KindAbove = refl
+named_back FieldAbove = refl
+named_back AskedWhileOpen = refl
+named_back EndedUnasked = refl
+named_back TooMany = refl
+named_back AskedAgain = refl
+
 -- a refusal is no 0
 some : (k : ℕ) → 0 < k → eqb k 0 ≡ false
 some k h = ne_eqb k 0 (λ e. omega arith)
@@ -82,18 +110,18 @@ some k h = ne_eqb k 0 (λ e. omega arith)
 -- an answer that fits comes back from its packed number
 pub number_back : (at : ℕ) (a : Number) → NumberFits at a → unpacked_number at (packed_number at a) ≡ a
 unfolding refusal_of number_in next_in
-number_back at (Is n next) h = number_from at _ 0 n (next - at) (number_parts at (Is n next) h) ∙ ap (Is n) (omega (arith, h.1))
-number_back at (Refused k) h = number_from at _ k 0 (0 - at) (number_parts at (Refused k) h) ∙ rw (some k (omega (arith, h.0)))
+number_back at (Ok (n, next)) h = number_from at _ 0 n (next - at) (number_parts at (Ok (n, next)) h) ∙ ap (λ (x : ℕ). Ok (n, x)) (omega (arith, h.1))
+number_back at (Err k) h = number_from at _ (paper_number k) 0 (0 - at) (number_parts at (Err k) h) ∙ rw (some (paper_number k) (omega (arith, h.0)), named_back k)
 
-pub put_back : (at : ℕ) (a : Put) → PutFits at a → unpacked_put at (packed_put at a) ≡ a
+pub put_back : (at : ℕ) (a : Option ℕ) → PutFits at a → unpacked_put at (packed_put at a) ≡ a
 unfolding put_refusal_of put_next_in
-put_back at (Next next) h = put_from at _ 0 0 (next - at) (put_parts at (Next next) h) ∙ ap Next (omega (arith, h.0))
-put_back at NoRoom h = put_from at _ 20 0 (0 - at) (put_parts at NoRoom h)
+put_back at (Some next) h = put_from at _ 0 0 (next - at) (put_parts at (Some next) h) ∙ ap Some (omega (arith, h.0))
+put_back at None h = put_from at _ 20 0 (0 - at) (put_parts at None h)
 
 pub answer_back : (a : Answer) → AnswerFits a → unpacked_answer (packed_answer a) ≡ a
 unfolding refusal_in count_in entry_in
-answer_back (All n) h = answer_from _ 0 (n + 0) 0 (answer_parts (All n) h) ∙ ap All (omega arith)
-answer_back (Unread k n) h = answer_from _ k (0 + n) 0 (answer_parts (Unread k n) h) ∙ rw (some k (omega (arith, h.0))) (ap (Unread k) (omega arith))
+answer_back (Ok n) h = answer_from _ 0 (n + 0) 0 (answer_parts (Ok n) h) ∙ ap Ok (omega arith)
+answer_back (Err (k, n)) h = answer_from _ (paper_number k) (0 + n) 0 (answer_parts (Err (k, n)) h) ∙ rw (some (paper_number k) (omega (arith, h.0)), named_back k) (ap (λ (x : ℕ). Err (k, x)) (omega arith))
 
 pub verdict_back : (v : Verdict) → VerdictFits v → unpacked_verdict (packed_verdict v) ≡ v
 unfolding refusal_by entry_by cell_in case_of
@@ -112,7 +140,7 @@ run_back a h = let w = run_parts a h in rw (w.refused, w.numbered)
 pub one_packed_number : (at : ℕ) (a b : Number) → NumberFits at a → NumberFits at b → packed_number at a ≡ packed_number at b → a ≡ b
 one_packed_number at a b h g e = sym (number_back at a h) ∙ ap (unpacked_number at) e ∙ number_back at b g
 
-pub one_packed_put : (at : ℕ) (a b : Put) → PutFits at a → PutFits at b → packed_put at a ≡ packed_put at b → a ≡ b
+pub one_packed_put : (at : ℕ) (a b : Option ℕ) → PutFits at a → PutFits at b → packed_put at a ≡ packed_put at b → a ≡ b
 one_packed_put at a b h g e = sym (put_back at a h) ∙ ap (unpacked_put at) e ∙ put_back at b g
 
 pub one_packed_answer : (a b : Answer) → AnswerFits a → AnswerFits b → packed_answer a ≡ packed_answer b → a ≡ b

@@ -1,23 +1,22 @@
 -- Every answer of a call fits the bits that it is packed into: a number takes one to five bytes, a record has at most 2,048 entries and 16,384 bytes, the
 -- entry that is named is at most 2,048 and the cell at most 15, and a schedule does no more than it is allowed.
-use Rattle.std.specs.Prelude.{ℕ, zero, suc, ◌+◌, ◌^◌, ◌≤◌, ◌<◌, ◌≡◌, refl, Bool, true, false, cond, List, [], ◌∷◌, eqb, length}
+use Rattle.std.specs.Prelude.{ℕ, zero, suc, ◌+◌, ◌^◌, ◌≤◌, ◌<◌, ◌≡◌, refl, Bool, true, false, cond, List, [], ◌∷◌, eqb, length, Err, Ok, Some, None, Option}
 use Rattle.std.proofs.Common.{ap, sym, ◌∙◌, ⊎_elim, arith}
 use Rattle.std.proofs.Math.Decide.{dec_le}
+use Rattle.refusal.specs.declared.Refusal.{Refusal as Refused}
+use Rattle.refusal.specs.declared.Refusal.TheVariants.{AskedAgain}
+use Rattle.refusal.specs.Number.{paper_number}
 use Rattle.number.specs.Number.{number_bytes, number_at, put_answer}
 use Rattle.number.specs.laws.NumberLaws.{length_some, length_few, refusal_bounds, put_fits, put_refused}
 use Rattle.number.proofs.theorems.Trip.{written_read}
-use Rattle.number.specs.declared.Number.{Number}
-use Rattle.number.specs.declared.Number.TheVariants.{Is, Refused}
-use Rattle.number.specs.declared.Put.{Put}
-use Rattle.number.specs.declared.Put.TheVariants.{Next, NoRoom}
+use Rattle.number.specs.Number.{Number}
 use Rattle.record.specs.Record.{Held, entries, fault, bytes_held}
 use Rattle.number.specs.Below.{Bytes, Words}
 use Rattle.record.specs.Named.{Named}
 use Rattle.record.proofs.theorems.Trip.{reading_legal, record_few}
 use Rattle.record.proofs.theorems.Refusals.{record_faults}
 use Rattle.record.specs.declared.Entry.{Entry}
-use Rattle.record.specs.declared.Answer.{Answer}
-use Rattle.record.specs.declared.Answer.TheVariants.{All, Refused as Unread}
+use Rattle.record.specs.Record.{Answer}
 use Rattle.rows.specs.Rows.{rows_held, read_outcome, write_outcome}
 use Rattle.rows.specs.Refusal.{Refusal}
 use Rattle.rows.specs.laws.RowLaws.{rows_length}
@@ -28,8 +27,7 @@ use Rattle.verdict.specs.laws.OnlyOne.{lowest_below, taken_legal}
 use Rattle.verdict.specs.laws.Refusals.{judges_refusals}
 use Rattle.verdict.specs.declared.Verdict.{Verdict}
 use Rattle.verdict.specs.declared.Verdict.TheVariants.{Lawful as says_lawful, Unlawful as says_unlawful, Refused as says_refused}
-use Rattle.method.specs.declared.Decision.{Decision}
-use Rattle.method.specs.declared.Decision.TheVariants.{No, Go}
+use Rattle.method.specs.Decision.{Decision}
 use Rattle.rack.specs.declared.Rack.{Rack}
 use Rattle.rack.specs.declared.Made.{Made}
 use Rattle.rack.specs.Sound.{settings_fit}
@@ -47,18 +45,18 @@ use Rattle.rack.specs.Places.{of_sizes}
 -- ---- numbers
 
 pub number_fits : (s : List ℕ) (at : ℕ) → Bytes s → (a : Number) → number_at s at ≡ a → NumberFits at a
-number_fits s at b (Is n next) p =
+number_fits s at b (Ok (n, next)) p =
     let w = written_read s at n next b p in
     (w.below, omega (arith, w.far, length_some n), omega (arith, w.far, length_few n))
-number_fits s at b (Refused k) p = refusal_bounds s at k p
+number_fits s at b (Err k) p = refusal_bounds s at k p
 
-pub put_fits_bits : (d : List ℕ) (at n : ℕ) (a : Put) → put_answer d at (number_bytes n) ≡ a → PutFits at a
-put_fits_bits d at n (Next next) p = elim (dec_le (at + length (number_bytes n)) (length d)) [
+pub put_fits_bits : (d : List ℕ) (at n : ℕ) (a : Option ℕ) → put_answer d at (number_bytes n) ≡ a → PutFits at a
+put_fits_bits d at n (Some next) p = elim (dec_le (at + length (number_bytes n)) (length d)) [
   | yes h ↦ (let q = sym (put_fits d at (number_bytes n) h) ∙ p in let e : at + length (number_bytes n) ≡ next = cc in
       (omega (arith, e, length_some n), omega (arith, e, length_few n)))
   | no h ↦ (let q = sym (put_refused d at (number_bytes n) (omega (arith, h))) ∙ p in let z : ◌≡◌ {A = ℕ} 0 1 = cc in absurd (omega arith))
 ]
-put_fits_bits d at n NoRoom p = tt
+put_fits_bits d at n None p = tt
 
 -- ---- records
 
@@ -74,44 +72,44 @@ refusal_fits {low} {k} h w = (
 )
 
 -- what is read has at most 2,048 entries, and what is written at most 16,384 bytes
-pub read_few : (s d : List ℕ) (n : ℕ) → Bytes s → (read_outcome s d).answer ≡ All n → n ≤ 2048
+pub read_few : (s d : List ℕ) (n : ℕ) → Bytes s → (read_outcome s d).answer ≡ Ok n → n ≤ 2048
 read_few s d n b p =
     let w = read_took (bytes_held s) d n p in
     let l = (reading_legal s w.all b w.held).few in omega (arith, w.long, rows_length w.all)
 
-pub write_few : (ws d : List ℕ) (n : ℕ) → Words ws → (write_outcome ws d).answer ≡ All n → n ≤ 16384
+pub write_few : (ws d : List ℕ) (n : ℕ) → Words ws → (write_outcome ws d).answer ≡ Ok n → n ≤ 16384
 write_few ws d n b p =
     let w = write_took (rows_held ws) d n p in
     omega (arith, w.long, record_few w.all (rows_legal ws w.all b w.held))
 
 pub read_fits : (s d : List ℕ) → Bytes s → (a : Answer) → (read_outcome s d).answer ≡ a → AnswerFits a
-read_fits s d b (All n) p = omega (arith, read_few s d n b p)
-read_fits s d b (Unread k n) p = refusal_fits (omega arith) (read_refusals s d k n p)
+read_fits s d b (Ok n) p = omega (arith, read_few s d n b p)
+read_fits s d b (Err (k, n)) p = refusal_fits (omega arith) (read_refusals s d k n p)
 
 pub write_fits : (ws d : List ℕ) → Words ws → (a : Answer) → (write_outcome ws d).answer ≡ a → AnswerFits a
-write_fits ws d b (All n) p = write_few ws d n b p
-write_fits ws d b (Unread k n) p = refusal_fits (omega arith) (write_refusals ws d k n p)
+write_fits ws d b (Ok n) p = write_few ws d n b p
+write_fits ws d b (Err (k, n)) p = refusal_fits (omega arith) (write_refusals ws d k n p)
 
 -- ---- verdicts
 
 -- an entry that 29 names is one of the record's
-again_within : (earlier : List Entry) (m : ℕ) (es all : List Entry) (k n : ℕ) → distinct_from earlier m es (entries all) ≡ fault k n → n < m + length es
+again_within : (earlier : List Entry) (m : ℕ) (es all : List Entry) (k : Refused) (n : ℕ) → distinct_from earlier m es (entries all) ≡ fault k n → n < m + length es
 unfolding distinct_from
 again_within earlier m [] all k n p = let z : ◌≡◌ {A = ℕ} 0 1 = cc in absurd (omega arith)
 again_within earlier m (e ∷ es) all k n p = go (repeats earlier e) p (again_within (e ∷ earlier) (m + 1) es all k n)
   where
-    go : (t : Bool) → cond t (fault 29 m) (distinct_from (e ∷ earlier) (m + 1) es (entries all)) ≡ fault k n
+    go : (t : Bool) → cond t (fault AskedAgain m) (distinct_from (e ∷ earlier) (m + 1) es (entries all)) ≡ fault k n
         → (distinct_from (e ∷ earlier) (m + 1) es (entries all) ≡ fault k n → n < m + 1 + length es) → n < m + suc (length es)
     go true q f = let i : m ≡ n = cc in omega arith
     go false q f = let h = f q in omega arith
 
-verdict_named : (s : List ℕ) → Bytes s → (h : Held) → bytes_held s ≡ h → (k n : ℕ) → distinct h ≡ fault k n → n ≤ 2048
+verdict_named : (s : List ℕ) → Bytes s → (h : Held) → bytes_held s ≡ h → (k : Refused) (n : ℕ) → distinct h ≡ fault k n → n ≤ 2048
 unfolding distinct
 verdict_named s b (entries es) e k n p = let l = again_within [] 0 es es k n p in let f = (reading_legal s es b e).few in omega arith
 verdict_named s b (fault j m) e k n p = let i : fault j m ≡ fault k n = p in named (record_faults s k n (e ∙ i))
   where
-    named : Named 21 k n 2048 → n ≤ 2048
-    named w = elim (dec_le k 27) [
+    named : Named 21 (paper_number k) n 2048 → n ≤ 2048
+    named w = elim (dec_le (paper_number k) 27) [
       | yes h ↦ (let l = w.early (omega arith) in omega arith)
       | no h ↦ (let l = w.last (omega (arith, h, w.most)) in omega arith)
     ]
@@ -122,7 +120,7 @@ verdict_fits s b says_lawful j = tt
 verdict_fits s b (says_unlawful c) (es, (e, l)) = lowest_below es (taken_legal s b es e) c.0 l
 verdict_fits s b (says_refused k n) j =
     let w = judges_refusals s k n j in
-    (w.0, w.1, verdict_named s b (bytes_held s) refl k n j)
+    (w.0, w.1, verdict_named s b (bytes_held s) refl j.0 n j.1.0)
 
 -- ---- racks
 
@@ -156,8 +154,8 @@ from_refusal done r (suc left) (k ∷ a ∷ b ∷ v ∷ ws) = go (decided r (eve
   where
     go : (o : Decision) → decided r (event_of k a b v) ≡ o → ((q : Rack) → (run_from (done + 1) q left ws).refusal ≤ 13)
         → (turn done r (event_of k a b v) o (λ q. run_from (done + 1) q left ws)).refusal ≤ 13
-    go (No n) e ih = (decided_refuses r (event_of k a b v) n e).1
-    go (Go p) e ih = ih (applied_of r (event_of k a b v) p)
+    go (Err n) e ih = (decided_refuses r (event_of k a b v) n e).1
+    go (Ok p) e ih = ih (applied_of r (event_of k a b v) p)
 
 run_refusal : (r : Rack) (n : ℕ) (es : List ℕ) → (run_of r n es).refusal ≤ 13
 unfolding run_of

@@ -1,6 +1,7 @@
 -- Each call for C has one outcome, and wrong answers are ruled out.
 use Rattle.std.specs.Prelude.{ℕ, ◌*◌, ◌^◌, ◌≤◌, ◌<◌, ◌≡◌, refl, false, List, [], ◌∷◌, length, get_or}
 use Rattle.std.proofs.Common.{sym, ap, ◌∙◌, arith}
+use Rattle.refusal.specs.Number.{paper_number}
 use Rattle.number.specs.Number.{number_bytes, number_at, put_answer, put_bytes}
 use Rattle.number.specs.laws.Sheet.{read_80_00, read_80}
 use Rattle.rows.specs.Rows.{read_outcome, write_outcome}
@@ -47,11 +48,11 @@ one_rack_run ws n es r r' e e' p q = (p.0 ∙ sym q.0, p.1 ∙ sym q.1)
 
 -- 80 00 is refused 22, and not the number 0 in two bytes; 80 is refused 21, and not the number 0
 pub not_long_zero : (r : ℕ) → r ≡ packed_number 0 (number_at (0x80 ∷ 0x00 ∷ []) 0) → r ≡ 2 ^ 40 * 2 → ⊥
-unfolding packed_number
+unfolding packed_number paper_number
 not_long_zero r p q = let e = sym q ∙ p ∙ ap (packed_number 0) read_80_00 in omega arith
 
 pub not_cut_zero : (r : ℕ) → r ≡ packed_number 0 (number_at (0x80 ∷ []) 0) → r ≡ 0 → ⊥
-unfolding packed_number
+unfolding packed_number paper_number
 not_cut_zero r p q = let e = sym q ∙ p ∙ ap (packed_number 0) read_80 in omega arith
 
 -- the paper's twelve bytes are lawful, and with last byte 00 they aren't

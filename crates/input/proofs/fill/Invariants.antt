@@ -1,9 +1,9 @@
 -- `input::fill` meets its contract. The measure is the room that is left. Assumes nothing.
-use Rattle.std.proofs.Common.{◌-◌, ◌≤◌, ◌≡◌, length}
+use Rattle.std.proofs.Common.{◌-◌, ◌≤◌, length}
 use Rattle.input.proofs.fill.Given as goal
 
 abbrev pub invariant-loop-count : goal.invariant-loop-count
-invariant-loop-count g l = (l.count ≤ l.room) × (length l.bytes ≡ length l.initial.bytes)
+invariant-loop-count g l = l.count ≤ length l.bytes
 
 abbrev pub decreases-loop-count : goal.decreases-loop-count
-decreases-loop-count g l = l.room - l.count
+decreases-loop-count g l = length l.initial.bytes - l.count

@@ -1,5 +1,5 @@
 -- What an entry does, in one of two ways: it starts an operation, or it ends a client's open one.
-use Rattle.std.specs.Prelude.{◌≡◌, refl, ◌≢◌, Bool, true, false, cond, not, ◌&&◌, List, [], ◌∷◌, ◌++◌, map, ℕ, ◌≤◌, eqb, ℤ, pos, set}
+use Rattle.std.specs.Prelude.{◌≡◌, refl, ◌≢◌, Bool, true, false, cond, not, ◌&&◌, List, [], ◌∷◌, ◌++◌, map, ℕ, ◌≤◌, eqb, ℤ, pos, set, None, Some}
 use Rattle.std.proofs.Common.{arith, eqb-true, ne_eqb}
 use Rattle.std.proofs.lemmas.Bool.{eqb-false}
 use Rattle.record.specs.Entry.{last_client, last_cell}
@@ -76,18 +76,19 @@ abbrev pub MayStep : Standing → Step → Type 0
 MayStep st (asks k c w v) = (k ≤ last_client) × (c ≤ last_cell) × (has st k ≡ 0)
 MayStep st (ends k v) = (k ≤ last_client) × (has st k ≢ 0)
 
-no_fault : (b : Bool) (n : ℕ) → n ≢ 0 → cond b 0 n ≡ 0 → b ≡ true
-no_fault true n d e = refl
-no_fault false n d e = absurd (d e)
+-- what is not refused passes the test
+pub no_fault : {A : Type 0} (b : Bool) (k : A) → cond b None (Some k) ≡ None → b ≡ true
+no_fault true k e = refl
+no_fault false k e = let z : ◌≡◌ {A = ℕ} 0 1 = cc in absurd (omega arith)
 
-pub may_step : (st : Standing) (e : Entry) → InRange e → fault_after st e ≡ 0 → MayStep st (step_of e)
+pub may_step : (st : Standing) (e : Entry) → InRange e → fault_after st e ≡ None → MayStep st (step_of e)
 unfolding fault_after
-may_step st (ReadAsked client cell) r f = (r.0, r.1, eqb-true _ 0 (no_fault (eqb (has st client.0) 0) 26 (λ e. omega arith) f))
-may_step st (WriteAsked client cell value) r f = (r.0, r.1, eqb-true _ 0 (no_fault (eqb (has st client.0) 0) 26 (λ e. omega arith) f))
+may_step st (ReadAsked client cell) r f = (r.0, r.1, eqb-true _ 0 (no_fault (eqb (has st client.0) 0) _ f))
+may_step st (WriteAsked client cell value) r f = (r.0, r.1, eqb-true _ 0 (no_fault (eqb (has st client.0) 0) _ f))
 may_step st (Told client value) r f =
-    (r.0, λ z. let h : has st client.0 ≡ 1 = eqb-true _ 1 (no_fault (eqb (has st client.0) 1) 27 (λ e. omega arith) f) in omega arith)
+    (r.0, λ z. let h : has st client.0 ≡ 1 = eqb-true _ 1 (no_fault (eqb (has st client.0) 1) _ f) in omega arith)
 may_step st (Done client) r f =
-    (r, λ z. let h : has st client.0 ≡ 2 = eqb-true _ 2 (no_fault (eqb (has st client.0) 2) 27 (λ e. omega arith) f) in omega arith)
+    (r, λ z. let h : has st client.0 ≡ 2 = eqb-true _ 2 (no_fault (eqb (has st client.0) 2) _ f) in omega arith)
 
 -- ---- parts
 

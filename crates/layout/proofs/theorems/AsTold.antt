@@ -1,15 +1,13 @@
 -- A client that asks holds a pair exactly when somebody has told. So does every client that is read from words, and every client of a sound rack.
-use Rattle.std.specs.Prelude.{ℕ, ◌+◌, ◌≡◌, refl, Bool, true, false, cond, List, ltb, eqb}
+use Rattle.std.specs.Prelude.{ℕ, ◌+◌, ◌≡◌, refl, Bool, true, false, cond, List, ltb, eqb, None, Some, Option}
 use Rattle.std.proofs.Common.{arith, eqb-true, ltb-true, ltb-false}
 use Rattle.std.proofs.Math.ListN.{get_or-eq_default}
 use Rattle.std.proofs.lemmas.Bool.{eqb-false}
+use Rattle.method.specs.declared.Operation.{Operation}
 use Rattle.record.specs.Entry.{client_limit}
 use Rattle.stamps.specs.declared.Pair.{Pair}
-use Rattle.method.specs.declared.Work.{Work}
-use Rattle.method.specs.declared.Work.TheVariants.{Idle, Open}
 use Rattle.method.specs.declared.Phase.{Phase}
 use Rattle.method.specs.declared.Phase.TheVariants.{Asking, Keeping}
-use Rattle.method.specs.declared.Holding.TheVariants.{NoPair, Holds}
 use Rattle.method.specs.declared.Party.{Party}
 use Rattle.rack.specs.declared.Settings.{Settings}
 use Rattle.rack.specs.Places.{idle, party_at}
@@ -26,7 +24,7 @@ phase_read : (phase set : ℕ) (pair : Pair) → PhaseAsTold set (phase_of phase
 unfolding phase_of holding_of
 phase_read phase set pair = go (eqb phase 1) (eqb set 0) refl
   where
-    go : (t u : Bool) → eqb set 0 ≡ u → PhaseAsTold set (cond t (Asking (cond u NoPair (Holds pair))) (Keeping pair))
+    go : (t u : Bool) → eqb set 0 ≡ u → PhaseAsTold set (cond t (Asking (cond u None (Some pair))) (Keeping pair))
     go true true e = eqb-true set 0 e
     go true false e = eqb-false set 0 e
     go false u e = tt
@@ -35,7 +33,7 @@ pub work_read : (ws : List ℕ) (at : ℕ) → AsTold (work_in ws at)
 unfolding work_in operation_in operation_of
 work_read ws at = go (eqb (word ws at) 0)
   where
-    go : (t : Bool) → AsTold (cond t Idle (Open (operation_in ws at)))
+    go : (t : Bool) → AsTold (cond t None (Some (operation_in ws at)))
     go true = tt
     go false = phase_read (word ws at) (set_of (word ws (at + 4))) (pair_in ws (at + 5))
 
@@ -62,10 +60,10 @@ read_as_told ws i = go (ltb i client_limit) refl
 -- ---- what is sound
 
 phase_sound : (z : Settings) (set : ℕ) (ph : Phase) → PhaseFits z set ph → PhaseAsTold set ph
-phase_sound z set (Asking NoPair) h = h.0
-phase_sound z set (Asking (Holds p)) h = h.0.0
+phase_sound z set (Asking None) h = h.0
+phase_sound z set (Asking (Some p)) h = h.0.0
 phase_sound z set (Keeping p) h = tt
 
-pub sound_as_told : (z : Settings) (w : Work) → work_fits z w ≡ true → AsTold w
-sound_as_told z Idle h = tt
-sound_as_told z (Open o) h = phase_sound z o.set o.phase (opened z o h).phase
+pub sound_as_told : (z : Settings) (w : Option Operation) → work_fits z w ≡ true → AsTold w
+sound_as_told z None h = tt
+sound_as_told z (Some o) h = phase_sound z o.set o.phase (opened z o h).phase

@@ -1,5 +1,5 @@
 -- What was written is read again: where the words of a part stand, that part is read.
-use Rattle.std.specs.Prelude.{ℕ, suc, ◌+◌, ◌<◌, ◌≡◌, refl, Bool, true, false, ◌&&◌, ◌||◌, List, ◌++◌, ltb, eqb, length, get_or}
+use Rattle.std.specs.Prelude.{ℕ, suc, ◌+◌, ◌<◌, ◌≡◌, refl, Bool, true, false, ◌&&◌, ◌||◌, List, ◌++◌, ltb, eqb, length, get_or, None, Some, Option}
 use Rattle.std.proofs.Common.{ap, ◌∙◌, arith, length-append, lt-ltb, eq-eqb, ne_eqb}
 use Rattle.number.specs.Value.{alternating_of}
 use Rattle.number.specs.laws.ValueLaws.{signed_alternating}
@@ -12,16 +12,11 @@ use Rattle.stamps.specs.declared.Pair.{Pair}
 use Rattle.method.specs.declared.Body.{Body}
 use Rattle.method.specs.declared.Body.TheVariants.{Ask, Tell, Keep, Kept}
 use Rattle.method.specs.declared.Message.{Message}
-use Rattle.method.specs.declared.InSlot.{InSlot}
-use Rattle.method.specs.declared.InSlot.TheVariants.{Empty, Full}
 use Rattle.method.specs.declared.Goal.{Goal}
 use Rattle.method.specs.declared.Goal.TheVariants.{Read, Write}
-use Rattle.method.specs.declared.Work.{Work}
-use Rattle.method.specs.declared.Work.TheVariants.{Idle, Open}
 use Rattle.method.specs.declared.Operation.{Operation}
 use Rattle.method.specs.declared.Phase.{Phase}
 use Rattle.method.specs.declared.Phase.TheVariants.{Asking, Keeping}
-use Rattle.method.specs.declared.Holding.TheVariants.{NoPair, Holds}
 use Rattle.method.specs.declared.Party.{Party}
 use Rattle.record.specs.Entry.{client_limit, cell_limit}
 use Rattle.layout.specs.Layout.{party_size, pair_size, slot_size, work_size, byte_limit, set_limit, op_limit, word}
@@ -99,10 +94,10 @@ body_long (Tell p) = refl
 body_long (Keep p) = refl
 body_long Kept = refl
 
-pub slot_long : (x : InSlot) → length (slot_words x) ≡ slot_size
+pub slot_long : (x : Option Message) → length (slot_words x) ≡ slot_size
 unfolding slot_words
-slot_long Empty = refl
-slot_long (Full m) = rw (body_long m.body)
+slot_long None = refl
+slot_long (Some m) = rw (body_long m.body)
 
 kind_below : (b : Body) → body_kind b < 4
 unfolding body_kind
@@ -118,7 +113,7 @@ body_again ws at (Tell p) h s = ap Tell (pair_again ws at p h s)
 body_again ws at (Keep p) h s = ap Keep (pair_again ws at p h s)
 body_again ws at Kept h s = refl
 
-full_again : (ws : List ℕ) (at : ℕ) (m : Message) → MessageSmall m → Stands ws at (slot_words (Full m)) → held_of ws at ≡ Full m
+full_again : (ws : List ℕ) (at : ℕ) (m : Message) → MessageSmall m → Stands ws at (slot_words (Some m)) → held_of ws at ≡ Some m
 unfolding slot_words held_of full_in message_known
 full_again ws at m h s =
     let z : at ≡ at + 0 = omega arith in
@@ -145,13 +140,13 @@ full_again ws at m h s =
       body_again ws (at + 6) m.body h.body rest,
     )
 
-pub slot_again : (ws : List ℕ) (at : ℕ) (x : InSlot) → held_small x → Stands ws at (slot_words x) → held_of ws at ≡ x
+pub slot_again : (ws : List ℕ) (at : ℕ) (x : Option Message) → held_small x → Stands ws at (slot_words x) → held_of ws at ≡ x
 unfolding slot_words held_of
-slot_again ws at Empty h s =
+slot_again ws at None h s =
     let z : at ≡ at + 0 = omega arith in
     let mark : word ws at ≡ 0 = ap (word ws) z ∙ s 0 (omega arith) in
     rw mark
-slot_again ws at (Full m) h s = full_again ws at m h s
+slot_again ws at (Some m) h s = full_again ws at m h s
 
 -- ---- clients
 
@@ -196,11 +191,11 @@ set_same n h = rw (lt-ltb n set_limit h)
 phase_again : (ws : List ℕ) (at set : ℕ) (ph : Phase) → phase_small ph → PhaseAsTold set ph → Stands ws at (held_words ph)
     → phase_of (phase_word ph) set (pair_in ws at) ≡ ph
 unfolding phase_of holding_of phase_word held_words holding_words
-phase_again ws at set (Asking NoPair) h t s = rw (eq-eqb set 0 t)
-phase_again ws at set (Asking (Holds p)) h t s = rw (ne_eqb set 0 t, pair_again ws at p h s)
+phase_again ws at set (Asking None) h t s = rw (eq-eqb set 0 t)
+phase_again ws at set (Asking (Some p)) h t s = rw (ne_eqb set 0 t, pair_again ws at p h s)
 phase_again ws at set (Keeping p) h t s = ap Keeping (pair_again ws at p h s)
 
-operation_again : (ws : List ℕ) (at : ℕ) (o : Operation) → work_small (Open o) → PhaseAsTold o.set o.phase → Stands ws at (operation_words o) → operation_in ws at ≡ o
+operation_again : (ws : List ℕ) (at : ℕ) (o : Operation) → work_small (Some o) → PhaseAsTold o.set o.phase → Stands ws at (operation_words o) → operation_in ws at ≡ o
 unfolding operation_words operation_in operation_of
 operation_again ws at o h t s =
     let q = opens_again ws at (phase_word o.phase) o.cell o.goal o.set (held_words o.phase) s in
@@ -220,13 +215,13 @@ unfolding phase_word
 phase_open (Asking held) = refl
 phase_open (Keeping held) = refl
 
-pub work_again : (ws : List ℕ) (at : ℕ) (w : Work) → work_small w → AsTold w → Stands ws at (work_words w) → work_in ws at ≡ w
+pub work_again : (ws : List ℕ) (at : ℕ) (w : Option Operation) → work_small w → AsTold w → Stands ws at (work_words w) → work_in ws at ≡ w
 unfolding work_words work_in operation_words
-work_again ws at Idle h t s =
+work_again ws at None h t s =
     let z : at ≡ at + 0 = omega arith in
     let phase : word ws at ≡ 0 = ap (word ws) z ∙ s 0 (omega arith) in
     rw phase
-work_again ws at (Open o) h t s =
+work_again ws at (Some o) h t s =
     let q = opens_again ws at (phase_word o.phase) o.cell o.goal o.set (held_words o.phase) s in
     rw (operation_again ws at o h t s, q.phases, phase_open o.phase)
 
@@ -237,14 +232,14 @@ open_long phase cell (Write v) set = refl
 
 held_long : (ph : Phase) → length (held_words ph) ≡ pair_size
 unfolding held_words holding_words pair_words
-held_long (Asking NoPair) = refl
-held_long (Asking (Holds p)) = refl
+held_long (Asking None) = refl
+held_long (Asking (Some p)) = refl
 held_long (Keeping p) = refl
 
-work_long : (w : Work) → length (work_words w) ≡ work_size
+work_long : (w : Option Operation) → length (work_words w) ≡ work_size
 unfolding work_words operation_words
-work_long Idle = refl
-work_long (Open o) =
+work_long None = refl
+work_long (Some o) =
     length-append (open_words (phase_word o.phase) o.cell o.goal o.set) (held_words o.phase)
     ∙ omega (arith, open_long (phase_word o.phase) o.cell o.goal o.set, held_long o.phase)
 
@@ -261,10 +256,10 @@ phase_known (Asking held) cell (Write v) set rest = refl
 phase_known (Keeping held) cell Read set rest = refl
 phase_known (Keeping held) cell (Write v) set rest = refl
 
-work_known : (w : Work) → (ltb (get_or (work_words w) 0 0) 3 && (eqb (get_or (work_words w) 0 0) 0 || ltb (get_or (work_words w) 2 0) 2)) ≡ true
+work_known : (w : Option Operation) → (ltb (get_or (work_words w) 0 0) 3 && (eqb (get_or (work_words w) 0 0) 0 || ltb (get_or (work_words w) 2 0) 2)) ≡ true
 unfolding work_words operation_words
-work_known Idle = refl
-work_known (Open o) = phase_known o.phase o.cell o.goal o.set (held_words o.phase)
+work_known None = refl
+work_known (Some o) = phase_known o.phase o.cell o.goal o.set (held_words o.phase)
 
 flag_below : (b : Bool) → flag b < 2
 unfolding flag

@@ -1,18 +1,15 @@
 -- What a sound rack holds is small enough for its words, but for operation numbers, power and entries.
-use Rattle.std.specs.Prelude.{ℕ, ◌≤◌, ◌<◌, ◌≡◌, true}
+use Rattle.std.specs.Prelude.{ℕ, ◌≤◌, ◌<◌, ◌≡◌, true, None, Some, Option}
 use Rattle.std.proofs.Common.{arith, pow_mono, ltb-true}
+use Rattle.method.specs.declared.Operation.{Operation}
+use Rattle.method.specs.declared.Message.{Message}
 use Rattle.quorum.specs.Sets.{set_bits, within}
 use Rattle.quorum.proofs.theorems.SetLaws.{within_below}
 use Rattle.stamps.specs.declared.Pair.{Pair}
 use Rattle.method.specs.declared.Body.{Body}
 use Rattle.method.specs.declared.Body.TheVariants.{Ask, Tell, Keep, Kept}
-use Rattle.method.specs.declared.InSlot.{InSlot}
-use Rattle.method.specs.declared.InSlot.TheVariants.{Empty, Full}
-use Rattle.method.specs.declared.Work.{Work}
-use Rattle.method.specs.declared.Work.TheVariants.{Idle, Open}
 use Rattle.method.specs.declared.Phase.{Phase}
 use Rattle.method.specs.declared.Phase.TheVariants.{Asking, Keeping}
-use Rattle.method.specs.declared.Holding.TheVariants.{NoPair, Holds}
 use Rattle.rack.specs.declared.Settings.{Settings}
 use Rattle.rack.specs.Sound.{pair_fits, body_fits, held_fits, work_fits}
 use Rattle.rack.specs.laws.SoundLaws.{Sized, bits_enough, named, PhaseFits, opened}
@@ -20,9 +17,9 @@ use Rattle.layout.specs.Layout.{byte_limit, set_limit, op_limit}
 use Rattle.layout.specs.laws.Trip.{body_small, held_small, phase_small, work_small}
 
 -- the operation number of a slot's message is at most the last
-abbrev pub TagSmall : InSlot → Type 0
-TagSmall Empty = Unit {0}
-TagSmall (Full m) = m.op < op_limit
+abbrev pub TagSmall : Option Message → Type 0
+TagSmall None = Unit {0}
+TagSmall (Some m) = m.op < op_limit
 
 pub rank_small : (z : Settings) (p : Pair) → Sized z → pair_fits z p ≡ true → p.stamp.rank < byte_limit
 unfolding pair_fits
@@ -40,10 +37,10 @@ body_small_lem z (Tell p) n h = rank_small z p n h
 body_small_lem z (Keep p) n h = rank_small z p n h
 body_small_lem z Kept n h = tt
 
-pub slot_small : (z : Settings) (x : InSlot) → Sized z → held_fits z x ≡ true → TagSmall x → held_small x
+pub slot_small : (z : Settings) (x : Option Message) → Sized z → held_fits z x ≡ true → TagSmall x → held_small x
 unfolding held_fits
-slot_small z Empty n h o = tt
-slot_small z (Full m) n h o =
+slot_small z None n h o = tt
+slot_small z (Some m) n h o =
     let q = named z m h in
     record {
       client = omega (arith, q.client, n.clients);
@@ -54,12 +51,12 @@ slot_small z (Full m) n h o =
     }
 
 phase_small_lem : (z : Settings) (set : ℕ) (ph : Phase) → Sized z → PhaseFits z set ph → phase_small ph
-phase_small_lem z set (Asking NoPair) n h = tt
-phase_small_lem z set (Asking (Holds p)) n h = rank_small z p n h.0.1
+phase_small_lem z set (Asking None) n h = tt
+phase_small_lem z set (Asking (Some p)) n h = rank_small z p n h.0.1
 phase_small_lem z set (Keeping p) n h = rank_small z p n h.0
 
-pub work_small_lem : (z : Settings) (w : Work) → Sized z → work_fits z w ≡ true → work_small w
-work_small_lem z Idle n h = tt
-work_small_lem z (Open o) n h =
+pub work_small_lem : (z : Settings) (w : Option Operation) → Sized z → work_fits z w ≡ true → work_small w
+work_small_lem z None n h = tt
+work_small_lem z (Some o) n h =
     let q = opened z o h in
     (omega (arith, q.cell, n.cells), (set_small z o.set n q.set, phase_small_lem z o.set o.phase n q.phase))

@@ -1,17 +1,13 @@
 -- What the theorems of Trip speak of.
-use Rattle.std.specs.Prelude.{◌<◌}
+use Rattle.std.specs.Prelude.{◌<◌, None, Some, Option}
+use Rattle.method.specs.declared.Operation.{Operation}
 use Rattle.record.specs.declared.Entry.{Entry}
 use Rattle.record.specs.declared.Entry.TheVariants.{ReadAsked, WriteAsked, Told, Done}
 use Rattle.method.specs.declared.Body.{Body}
 use Rattle.method.specs.declared.Body.TheVariants.{Ask, Tell, Keep, Kept}
 use Rattle.method.specs.declared.Message.{Message}
-use Rattle.method.specs.declared.InSlot.{InSlot}
-use Rattle.method.specs.declared.InSlot.TheVariants.{Empty, Full}
-use Rattle.method.specs.declared.Work.{Work}
-use Rattle.method.specs.declared.Work.TheVariants.{Idle, Open}
 use Rattle.method.specs.declared.Phase.{Phase}
 use Rattle.method.specs.declared.Phase.TheVariants.{Asking, Keeping}
-use Rattle.method.specs.declared.Holding.TheVariants.{NoPair, Holds}
 use Rattle.record.specs.Entry.{client_limit, cell_limit}
 use Rattle.layout.specs.Layout.{byte_limit, set_limit, op_limit}
 
@@ -38,17 +34,17 @@ pub record MessageSmall (m : Message) : Type 0 where
   pub body : body_small m.body
 
 -- so does the message of a slot
-abbrev pub held_small : InSlot → Type 0
-held_small Empty = Unit {0}
-held_small (Full m) = MessageSmall m
+abbrev pub held_small : Option Message → Type 0
+held_small None = Unit {0}
+held_small (Some m) = MessageSmall m
 
 -- a pair that is held has a rank that a byte holds
 abbrev pub phase_small : Phase → Type 0
-phase_small (Asking NoPair) = Unit {0}
-phase_small (Asking (Holds p)) = p.stamp.rank < byte_limit
+phase_small (Asking None) = Unit {0}
+phase_small (Asking (Some p)) = p.stamp.rank < byte_limit
 phase_small (Keeping p) = p.stamp.rank < byte_limit
 
 -- an open operation names what bytes hold, and its set has no more bits than a set has
-abbrev pub work_small : Work → Type 0
-work_small Idle = Unit {0}
-work_small (Open o) = (o.cell.0 < byte_limit) × ((o.set < set_limit) × phase_small o.phase)
+abbrev pub work_small : Option Operation → Type 0
+work_small None = Unit {0}
+work_small (Some o) = (o.cell.0 < byte_limit) × ((o.set < set_limit) × phase_small o.phase)

@@ -1,10 +1,9 @@
 -- In words that calls left, the rows of the record stand one after another: the writer takes them as they stand.
-use Rattle.std.specs.Prelude.{ℕ, zero, suc, ◌+◌, ◌*◌, ◌≤◌, ◌<◌, ◌≡◌, refl, Bool, true, false, List, [], ◌∷◌, ◌++◌, eqb, length, take, drop}
+use Rattle.std.specs.Prelude.{ℕ, zero, suc, ◌+◌, ◌*◌, ◌≤◌, ◌<◌, ◌≡◌, refl, Bool, true, false, List, [], ◌∷◌, ◌++◌, eqb, length, take, drop, Ok}
 use Rattle.std.proofs.Common.{ap, ap₂, sym, ◌∙◌, subst, arith, length-drop, ext_get_or, take-add, drop-drop, get_or-take, get_or-drop, length-take-le, eq-eqb}
 use Rattle.std.proofs.lemmas.Bool.{eqb-false}
 use Rattle.record.specs.declared.Entry.{Entry}
 use Rattle.record.specs.declared.Entry.TheVariants.{ReadAsked}
-use Rattle.record.specs.declared.Answer.TheVariants.{All}
 use Rattle.record.specs.Record.{all_of, bytes_of}
 use Rattle.rows.specs.Row.{row_of}
 use Rattle.rows.specs.Rows.{rows_of, write_outcome}
@@ -105,7 +104,7 @@ called_rows ws c =
 -- So where 16,384 bytes are lent the writer puts the record's bytes at their front, and refuses nothing.
 pub called_writes : (ws d : List ℕ) → Called ws → 16384 ≤ length d
     → let es = record_of (rack_of ws) in
-    write_outcome (rows_in ws) d ≡ record { answer = All (length (bytes_of es)); lent = bytes_of es ++ drop (length (bytes_of es)) d }
+    write_outcome (rows_in ws) d ≡ record { answer = Ok (length (bytes_of es)); lent = bytes_of es ++ drop (length (bytes_of es)) d }
 called_writes ws d c room =
     let back = calls_read_back ws c in
     ap (λ (rows : List ℕ). write_outcome rows d) (called_rows ws c) ∙ back.writes d (omega (arith, back.few))

@@ -1,5 +1,5 @@
 -- The record that the programs `drill` and `recorder` write is lawful and reads back, a refused maker's too.
-use Rattle.std.specs.Prelude.{ℕ, ◌+◌, ◌-◌, ◌≤◌, min, ◌≡◌, Bool, true, false, cond, List, ◌++◌, eqb, length, take, drop}
+use Rattle.std.specs.Prelude.{ℕ, ◌+◌, ◌-◌, ◌≤◌, min, ◌≡◌, Bool, true, false, cond, List, ◌++◌, eqb, length, take, drop, Ok}
 use Rattle.std.proofs.Common.{ap, ap₂, ◌∙◌, append_assoc, arith}
 use Rattle.std.proofs.lemmas.List.Edits.{sets, sets-eq}
 use Rattle.std.proofs.Math.Seq.{take-append_seam}
@@ -18,14 +18,10 @@ use Rattle.promise.proofs.theorems.Promise.{promise_reached}
 use Rattle.back.specs.Standing.{Agrees}
 use Rattle.back.proofs.theorems.Agrees.{run_agrees, made_agrees, agrees_legal}
 use Rattle.back.proofs.theorems.Back.{legal_back}
-use Rattle.script.specs.declared.Words.{Words}
-use Rattle.script.specs.declared.Words.TheVariants.{Are}
-use Rattle.script.specs.Script.{events_from, words_of, script_of}
+use Rattle.script.specs.Script.{Words, events_from, words_of, script_of}
 use Rattle.lines.specs.Words.{done_start}
 use Rattle.lines.specs.Lines.{each_below, sizes_line, replica_line, client_line, slot_line, record_line, refusal_text, ran_text}
-use Rattle.play.specs.declared.Recorded.{Recorded}
-use Rattle.play.specs.declared.Recorded.TheVariants.{Run}
-use Rattle.play.specs.Play.{played_of, text_after, drill_text, bytes_after, record_bytes_of, answer_after, recorded_of, Records}
+use Rattle.play.specs.Play.{Recorded, played_of, text_after, drill_text, bytes_after, record_bytes_of, answer_after, recorded_of, Records}
 use Rattle.lent.specs.Drilled.{Drilled, InFull}
 use Rattle.lent.specs.laws.Scripts.{script_words}
 
@@ -89,7 +85,7 @@ module _ (s : List ℕ) (bytes : Bytes s) (replicas clients cells allowance firs
       go false = made_agrees replicas clients cells
 
 -- What `drill` writes for a script without a fault: the lines of its run, with the bytes of a lawful record that reads back.
-pub drill_lawful : (s : List ℕ) (replicas clients cells allowance first : ℕ) → Bytes s → script_of s ≡ Are replicas clients cells allowance first
+pub drill_lawful : (s : List ℕ) (replicas clients cells allowance first : ℕ) → Bytes s → script_of s ≡ Ok (replicas, clients, cells, allowance, first)
     → Drilled (played_of s replicas clients cells allowance first) (drill_text s)
 unfolding drill_text
 drill_lawful s replicas clients cells allowance first bytes h =
@@ -117,7 +113,7 @@ front_of before bytes h = ap (take (length bytes)) (sets-eq bytes before 0 (omeg
 
 -- What `recorder` writes for a script without a fault: in 16,384 bytes the record of its run stands whole, is lawful and reads back.
 pub recorded_lawful : (s before : List ℕ) (replicas clients cells allowance first : ℕ) (r : Recorded) (after : List ℕ) → Bytes s → 16384 ≤ length before
-    → script_of s ≡ Are replicas clients cells allowance first → Records s before r after → InFull (played_of s replicas clients cells allowance first) r after
+    → script_of s ≡ Ok (replicas, clients, cells, allowance, first) → Records s before r after → InFull (played_of s replicas clients cells allowance first) r after
 unfolding record_bytes_of recorded_of
 recorded_lawful s before replicas clients cells allowance first r after bytes room h w =
     let q : Ran = played_of s replicas clients cells allowance first in
@@ -129,7 +125,7 @@ recorded_lawful s before replicas clients cells allowance first r after bytes ro
       answer =
           w.answer
           ∙ ap₂ (λ (l : List ℕ) (x : Words). answer_after s (min (length l) (length before)) x) all h
-          ∙ ap (λ (n : ℕ). Run q.refusal n) count;
+          ∙ ap (λ (n : ℕ). Ok (q.refusal, n)) count;
       front =
           ap (take (length (bytes_of (record_of q.rack)))) (w.lent ∙ ap (λ (l : List ℕ). sets before 0 l) all)
           ∙ front_of before (bytes_of (record_of q.rack)) (omega (arith, few));

@@ -1,5 +1,5 @@
 -- Each plan leaves what words can say again.
-use Rattle.std.specs.Prelude.{ℕ, ◌+◌, ◌<◌, ◌≡◌, true, ltb}
+use Rattle.std.specs.Prelude.{ℕ, ◌+◌, ◌<◌, ◌≡◌, true, ltb, None, Some, Option}
 use Rattle.std.proofs.Common.{sym, arith}
 use Rattle.std.proofs.Math.Path.{subst}
 use borrow.Author.Tests.{ltb-true}
@@ -9,8 +9,6 @@ use Rattle.quorum.specs.Sets.{with_replica, without_replica}
 use Rattle.quorum.proofs.theorems.SetLaws.{with_below, without_below}
 use Rattle.stamps.specs.declared.Pair.{Pair}
 use Rattle.method.specs.declared.Message.{Message}
-use Rattle.method.specs.declared.InSlot.{InSlot}
-use Rattle.method.specs.declared.InSlot.TheVariants.{Empty, Full}
 use Rattle.method.specs.declared.Goal.{Goal}
 use Rattle.method.specs.declared.Goal.TheVariants.{Read, Write}
 use Rattle.method.specs.declared.Sight.{Sight}
@@ -87,7 +85,7 @@ module _ (z : Settings) (n : Sized z) (s : Sight) (on : s.power < power_limit) (
   powered_stays : (after : ℕ) → after < power_limit → PlanStays (powered s after)
   powered_stays after h = record { power = h; op = small; message = omega arith; note = tt }
 
-  pub plan_stays : (held : InSlot) → held_fits z held ≡ true → TagSmall held → (e : Event) → in_rack z e ≡ true → (p : Plan) → Does s held e p → PlanStays p
+  pub plan_stays : (held : Option Message) → held_fits z held ≡ true → TagSmall held → (e : Event) → in_rack z e ≡ true → (p : Plan) → Does s held e p → PlanStays p
   unfolding in_rack held_fits
   plan_stays held hh ho (StartRead client cell) i p x =
       start_stays client cell Read p (ltb-true _ _ (and_left (ltb client.0 z.clients) (ltb cell.0 z.cells) i))
@@ -95,12 +93,12 @@ module _ (z : Settings) (n : Sized z) (s : Sight) (on : s.power < power_limit) (
   plan_stays held hh ho (StartWrite client cell v) i p x =
       start_stays client cell (Write v) p (ltb-true _ _ (and_left (ltb client.0 z.clients) (ltb cell.0 z.cells) i))
       (ltb-true _ _ (and_right (ltb client.0 z.clients) (ltb cell.0 z.cells) i)) x
-  plan_stays Empty hh ho (Deliver slot) i p x = absurd x
-  plan_stays (Full m) hh ho (Deliver slot) i p x = deliver_stays m (named z m hh) ho p x
-  plan_stays Empty hh ho (Lose slot) i p x = absurd x
-  plan_stays (Full m) hh ho (Lose slot) i p x = subst PlanStays (sym x) (used_stays m (named z m hh) ho)
-  plan_stays Empty hh ho (Copy slot) i p x = absurd x
-  plan_stays (Full m) hh ho (Copy slot) i p x = subst PlanStays (sym x) (record { power = on; op = small; message = ho; note = tt })
+  plan_stays None hh ho (Deliver slot) i p x = absurd x
+  plan_stays (Some m) hh ho (Deliver slot) i p x = deliver_stays m (named z m hh) ho p x
+  plan_stays None hh ho (Lose slot) i p x = absurd x
+  plan_stays (Some m) hh ho (Lose slot) i p x = subst PlanStays (sym x) (used_stays m (named z m hh) ho)
+  plan_stays None hh ho (Copy slot) i p x = absurd x
+  plan_stays (Some m) hh ho (Copy slot) i p x = subst PlanStays (sym x) (record { power = on; op = small; message = ho; note = tt })
   plan_stays held hh ho (Resend client) i p x = subst PlanStays (sym x.plan) (record { power = on; op = small; message = small; note = tt })
   plan_stays held hh ho (Stop client) i p x = subst PlanStays (sym x.plan) (record { power = on; op = small; message = omega arith; note = tt })
   plan_stays held hh ho (Off replica) i p x =

@@ -1,6 +1,6 @@
 -- The sound rack of any words, and the fresh rack where every word is 0, can be written into these words and read again.
 use Prim.Native.Nat.{ℕ, zero, suc, ◌+◌, ◌≤◌, ◌<◌}
-use Rattle.std.specs.Prelude.{◌≡◌, refl, Bool, false, cond, not, ◌&&◌, ◌||◌, List, ltb, eqb, replicate, drop}
+use Rattle.std.specs.Prelude.{◌≡◌, refl, Bool, false, cond, not, ◌&&◌, ◌||◌, List, ltb, eqb, replicate, drop, None}
 use Rattle.std.proofs.Common.{sym, ◌∙◌, arith, pow_mono}
 use Rattle.std.proofs.Math.Path.{subst}
 use Rattle.std.proofs.Math.Bool.{true}
@@ -15,7 +15,6 @@ use Rattle.rows.specs.Row.{entry_of}
 use Rattle.quorum.specs.Sets.{set_bits, every_replica}
 use Rattle.quorum.proofs.theorems.SetLaws.{every_below}
 use Rattle.stamps.specs.Stamp.{fresh_pair}
-use Rattle.method.specs.declared.InSlot.TheVariants.{Empty}
 use Rattle.method.specs.declared.Party.{Party}
 use Rattle.method.specs.laws.Tests.{and_left, and_right}
 use Rattle.rack.specs.declared.Line.{Line}
@@ -77,7 +76,7 @@ held_op : (ws : List ℕ) (at : ℕ) → TagSmall (held_of ws at)
 unfolding held_of full_in message_known
 held_op ws at = go (eqb (word ws at) 0) (message_known (word ws at) (word ws (at + 1)) (word ws (at + 5))) refl
   where
-    go : (t u : Bool) → message_known (word ws at) (word ws (at + 1)) (word ws (at + 5)) ≡ u → TagSmall (cond t Empty (cond u (full_in ws at) stray_held))
+    go : (t u : Bool) → message_known (word ws at) (word ws (at + 1)) (word ws (at + 5)) ≡ u → TagSmall (cond t None (cond u (full_in ws at) stray_held))
     go true u e = tt
     go false true e = ltb-true _ _ (and_right (ltb (word ws (at + 1)) 4) (ltb (word ws (at + 5)) op_limit) (and_right (eqb (word ws at) 1) _ e))
     go false false e = omega arith

@@ -1,5 +1,5 @@
 -- Every rack of a run from words can be written into them and read again.
-use Rattle.std.specs.Prelude.{ℕ, zero, suc, ◌+◌, ◌*◌, ◌%◌, ◌≤◌, ◌<◌, ◌≡◌, refl, Bool, true, false, List, [], ◌∷◌, eqb, length, get_or, set}
+use Rattle.std.specs.Prelude.{ℕ, zero, suc, ◌+◌, ◌*◌, ◌%◌, ◌≤◌, ◌<◌, ◌≡◌, refl, Bool, true, false, List, [], ◌∷◌, eqb, length, get_or, set, None, Some, Err, Ok, Option}
 use Rattle.std.proofs.Math.Path.{ap}
 use Rattle.std.proofs.Common.{◌∙◌, arith, get_or-set_same, eqb-true}
 use Rattle.std.proofs.Math.ListN.{length-set}
@@ -12,15 +12,12 @@ use Rattle.quorum.specs.Sets.{members_of}
 use Rattle.slots.specs.Free.{first_free}
 use Rattle.stamps.specs.Stamp.{fresh_pair}
 use Rattle.method.specs.declared.Message.{Message}
-use Rattle.method.specs.declared.InSlot.{InSlot}
-use Rattle.method.specs.declared.InSlot.TheVariants.{Empty, Full}
 use Rattle.method.specs.declared.Party.{Party}
 use Rattle.method.specs.declared.Event.{Event}
 use Rattle.method.specs.declared.Note.{Note}
 use Rattle.method.specs.declared.Note.TheVariants.{Nothing, Asked, Ended}
 use Rattle.method.specs.declared.Plan.{Plan}
-use Rattle.method.specs.declared.Decision.{Decision}
-use Rattle.method.specs.declared.Decision.TheVariants.{No, Go}
+use Rattle.method.specs.Decision.{Decision}
 use Rattle.method.specs.Plan.{message_of}
 use Rattle.rack.specs.declared.Line.{Line}
 use Rattle.rack.specs.declared.Slot.{Slot}
@@ -115,16 +112,16 @@ cleared_ops true j w h i = set_either (λ (x : Slot). TagSmall x.held) w j empty
 cleared_ops false j w h i = h i
 
 -- the pair that a message is about is within the sizes
-place_within : (z : Settings) (x : InSlot) → Sized z → held_fits z x ≡ true → (place_in x < cell_limit * z.replicas) × (place_in x % cell_limit < z.cells)
+place_within : (z : Settings) (x : Option Message) → Sized z → held_fits z x ≡ true → (place_in x < cell_limit * z.replicas) × (place_in x % cell_limit < z.cells)
 unfolding place_in held_fits
-place_within z Empty n h = (omega (arith, n.some_replica), omega (arith, n.some_cell))
-place_within z (Full m) n h =
+place_within z None n h = (omega (arith, n.some_replica), omega (arith, n.some_cell))
+place_within z (Some m) n h =
     let q = named z m h in
     (omega (arith, q.replica, q.cell, n.cells), omega (arith, q.cell, n.cells))
 
 -- ---- an event that is done
 
-module _ (ws : List ℕ) (r : Rack) (e : Event) (p : Plan) (h : sound_of r ≡ true) (g : decided r e ≡ Go p) (k : Writable ws r) where
+module _ (ws : List ℕ) (r : Rack) (e : Event) (p : Plan) (h : sound_of r ≡ true) (g : decided r e ≡ Ok p) (k : Writable ws r) where
   left : PlanStays p
   left =
       let d : Decided r e p = decided_fits r e p h g in
@@ -172,7 +169,7 @@ module _ (ws : List ℕ) (r : Rack) (e : Event) (p : Plan) (h : sound_of r ≡ t
 -- ---- a run
 
 -- what an event leaves alone, a run leaves alone
-pub run_keeps : (P : Rack → Type 0) → ((r : Rack) (e : Event) (p : Plan) → sound_of r ≡ true → decided r e ≡ Go p → P r → P (applied_of r e p))
+pub run_keeps : (P : Rack → Type 0) → ((r : Rack) (e : Event) (p : Plan) → sound_of r ≡ true → decided r e ≡ Ok p → P r → P (applied_of r e p))
     → (done : ℕ) (r : Rack) (n : ℕ) (es : List ℕ) → sound_of r ≡ true → P r → P (run_from done r n es).rack
 unfolding run_from turn
 run_keeps P step done r zero es s h = h
@@ -184,8 +181,8 @@ run_keeps P step done r (suc n) (k ∷ a ∷ b ∷ v ∷ es) s h = go (decided r
   where
     go : (o : Decision) → decided r (event_of k a b v) ≡ o → ((q : Rack) → sound_of q ≡ true → P q → P (run_from (done + 1) q n es).rack)
         → P (turn done r (event_of k a b v) o (λ q. run_from (done + 1) q n es)).rack
-    go (No x) e ih = h
-    go (Go p) e ih = ih (applied_of r (event_of k a b v) p) (sound_stays r (event_of k a b v) p s e) (step r (event_of k a b v) p s e h)
+    go (Err x) e ih = h
+    go (Ok p) e ih = ih (applied_of r (event_of k a b v) p) (sound_stays r (event_of k a b v) p s e) (step r (event_of k a b v) p s e h)
 
 pub run_writable : (ws : List ℕ) (r : Rack) (n : ℕ) (es : List ℕ) → sound_of r ≡ true → Writable ws r → Writable ws (run_of r n es).rack
 run_writable ws r n es s k = rw (run_from_lem r n es) (run_keeps (Writable ws) (λ q e p h g. writable_stays ws q e p h g) 0 r n es s k)

@@ -1,6 +1,8 @@
 -- The lines of a run on a sound rack have room in `text_room` bytes.
-use Rattle.std.specs.Prelude.{ℕ, zero, suc, ◌+◌, ◌*◌, ◌≤◌, ◌≡◌, Bool, true, false, cond, List, [], ◌∷◌, ◌++◌, map, eqb, length, take}
+use Rattle.std.specs.Prelude.{ℕ, zero, suc, ◌+◌, ◌*◌, ◌≤◌, ◌≡◌, Bool, true, false, cond, List, [], ◌∷◌, ◌++◌, map, eqb, length, take, None, Some, Option}
 use Rattle.std.proofs.Common.{arith, length-append}
+use Rattle.method.specs.declared.Operation.{Operation}
+use Rattle.method.specs.declared.Message.{Message}
 use Rattle.text.specs.Text.{decimal, field, refused_word, line_feed, hex_text}
 use Rattle.text.specs.laws.Length.{Few, both, digits_few, value_few, hex_few}
 use Rattle.record.specs.Entry.{client_limit, cell_limit, entry_bytes}
@@ -10,16 +12,10 @@ use Rattle.quorum.specs.Sets.{set_bits, has_replica}
 use Rattle.stamps.specs.declared.Pair.{Pair}
 use Rattle.method.specs.declared.Body.{Body}
 use Rattle.method.specs.declared.Body.TheVariants.{Ask, Tell, Keep, Kept}
-use Rattle.method.specs.declared.InSlot.{InSlot}
-use Rattle.method.specs.declared.InSlot.TheVariants.{Empty, Full}
 use Rattle.method.specs.declared.Goal.{Goal}
 use Rattle.method.specs.declared.Goal.TheVariants.{Read, Write}
-use Rattle.method.specs.declared.Holding.{Holding}
-use Rattle.method.specs.declared.Holding.TheVariants.{NoPair, Holds}
 use Rattle.method.specs.declared.Phase.{Phase}
 use Rattle.method.specs.declared.Phase.TheVariants.{Asking, Keeping}
-use Rattle.method.specs.declared.Work.{Work}
-use Rattle.method.specs.declared.Work.TheVariants.{Idle, Open}
 use Rattle.method.specs.declared.Party.{Party}
 use Rattle.rack.specs.declared.Line.{Line}
 use Rattle.rack.specs.declared.Settings.{Settings}
@@ -98,9 +94,9 @@ names_few : (client replica cell op : ℕ) → Few (names_text client replica ce
 names_few client replica cell op =
     record { few = simp length-append (omega (arith, (digits_few 20 client).few, (digits_few 20 replica).few, (digits_few 20 cell).few, (digits_few 20 op).few)) }
 
-slot_few : (i : ℕ) (h : InSlot) → Few (slot_line i h) slot_most
-slot_few i Empty = record { few = omega arith }
-slot_few i (Full m) =
+slot_few : (i : ℕ) (h : Option Message) → Few (slot_line i h) slot_most
+slot_few i None = record { few = omega arith }
+slot_few i (Some m) =
     let names = names_few m.client.0 m.replica.0 m.cell.0 m.op in
     let message : Few (message_text m) 181 = both (kind_few m.body) (both names (body_few m.body)) in
     let end : Few line_feed 1 = record { few = omega arith } in
@@ -134,9 +130,9 @@ open_few op cell goal set = record { few = simp length-append (omega (arith, (go
 held_few : (p : Pair) → Few (held_text p) 69
 held_few p = record { few = omega (arith, (pair_few p).few) }
 
-holding_few : (held : Holding) → Few (holding_text held) 69
-holding_few NoPair = record { few = omega arith }
-holding_few (Holds p) = held_few p
+holding_few : (held : Option Pair) → Few (holding_text held) 69
+holding_few None = record { few = omega arith }
+holding_few (Some p) = held_few p
 
 phase_few : (ph : Phase) → Few (phase_word ph) 8
 phase_few (Asking held) = record { few = omega arith }
@@ -146,9 +142,9 @@ phase_held_few : (ph : Phase) → Few (phase_held ph) 69
 phase_held_few (Asking held) = holding_few held
 phase_held_few (Keeping held) = held_few held
 
-work_few : (op : ℕ) (w : Work) → Few (work_text op w) work_most
-work_few op Idle = record { few = omega (arith, (digits_few 20 op).few) }
-work_few op (Open o) = both (phase_few o.phase) (both (open_few op o.cell.0 o.goal o.set) (phase_held_few o.phase))
+work_few : (op : ℕ) (w : Option Operation) → Few (work_text op w) work_most
+work_few op None = record { few = omega (arith, (digits_few 20 op).few) }
+work_few op (Some o) = both (phase_few o.phase) (both (open_few op o.cell.0 o.goal o.set) (phase_held_few o.phase))
 
 stopped_few : (b : Bool) → Few (stopped_text b) 8
 stopped_few true = record { few = omega arith }

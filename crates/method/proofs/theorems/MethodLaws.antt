@@ -1,5 +1,5 @@
 -- Every plan is of the method: what is done of an event is what the method says of its kind. What stands on plans goes by this, and not by their text.
-use Rattle.std.specs.Prelude.{◌≡◌, ◌≢◌, ◌⊎◌, true, not, eqb}
+use Rattle.std.specs.Prelude.{◌≡◌, ◌≢◌, ◌⊎◌, true, not, eqb, None, Some, Err, Ok, Option}
 use Rattle.std.proofs.Math.Path.{refl}
 use Rattle.std.proofs.Common.{ap, sym, ◌∙◌, subst, inl, inr}
 use Rattle.std.proofs.Math.Bool.{false}
@@ -12,21 +12,16 @@ use Rattle.stamps.specs.Stamp.{last_number}
 use Rattle.method.specs.declared.Body.{Body}
 use Rattle.method.specs.declared.Body.TheVariants.{Ask, Tell, Keep, Kept}
 use Rattle.method.specs.declared.Message.{Message}
-use Rattle.method.specs.declared.InSlot.{InSlot}
-use Rattle.method.specs.declared.InSlot.TheVariants.{Empty, Full}
 use Rattle.method.specs.declared.Goal.{Goal}
 use Rattle.method.specs.declared.Goal.TheVariants.{Read, Write}
 use Rattle.method.specs.declared.Phase.{Phase}
 use Rattle.method.specs.declared.Phase.TheVariants.{Asking, Keeping}
 use Rattle.method.specs.declared.Operation.{Operation}
-use Rattle.method.specs.declared.Work.{Work}
-use Rattle.method.specs.declared.Work.TheVariants.{Idle, Open}
 use Rattle.method.specs.declared.Sight.{Sight}
 use Rattle.method.specs.declared.Event.{Event}
 use Rattle.method.specs.declared.Event.TheVariants.{StartRead, StartWrite, Deliver, Lose, Copy, Resend, Stop, Off, On, Unknown}
 use Rattle.method.specs.declared.Plan.{Plan}
-use Rattle.method.specs.declared.Decision.{Decision}
-use Rattle.method.specs.declared.Decision.TheVariants.{No, Go}
+use Rattle.method.specs.Decision.{Decision}
 use Rattle.method.specs.Plan.{used_up, start_of, ask_of, keep_of, current, written, keeps_of, kept_counts, kept_in, kept_at, kept_of, copy_of, resend_of, stop_of}
 use Rattle.method.specs.Refusals.{last_op, to_replica, is_write, decision_of}
 use Rattle.method.specs.About.{client_in, client_of}
@@ -40,8 +35,8 @@ use Rattle.method.proofs.theorems.InTurn.{in_turn}
 
 -- what is done, if anything is, is such
 abbrev IfGo : (Plan → Type 0) → Decision → Type 0
-IfGo P (No k) = Unit {0}
-IfGo P (Go p) = P p
+IfGo P (Err k) = Unit {0}
+IfGo P (Ok p) = P p
 
 module _ (s : Sight) where
   -- ---- a start
@@ -50,11 +45,11 @@ module _ (s : Sight) where
   unfolding start_turn start_in start_of
   start_does client cell goal = either (IfGo (Starts s client cell goal)) s.party.stopped _ _ (λ a. tt) (λ a. go a s.party.work refl)
     where
-      go : s.party.stopped ≡ false → (w : Work) → s.party.work ≡ w → IfGo (Starts s client cell goal) (start_in w s client cell goal)
-      go a Idle q =
+      go : s.party.stopped ≡ false → (w : Option Operation) → s.party.work ≡ w → IfGo (Starts s client cell goal) (start_in w s client cell goal)
+      go a None q =
           either (IfGo (Starts s client cell goal)) (eqb s.party.op last_op) _ _ (λ b. tt)
           (λ b. record { acts = a; before = q; next = eqb-false s.party.op last_op b; plan = refl })
-      go a (Open o) q = tt
+      go a (Some o) q = tt
 
   -- ---- a slot's message
 
@@ -67,11 +62,11 @@ module _ (s : Sight) where
     spent : to_replica m.body ≡ false → counting s m ≡ false → Delivers s m (used_up s m)
     spent a l = spends (record { answer = a; late = l; plan = refl })
 
-    ask_does : m.body ≡ Ask → It (if_on s m (Go (ask_of s m)))
+    ask_does : m.body ≡ Ask → It (if_on s m (Ok (ask_of s m)))
     unfolding if_on ask_of
     ask_does b = either It (has_replica s.power m.replica.0) _ _ (λ e. tells (record { body = b; on = e; plan = refl })) (λ e. tt)
 
-    keep_does : (q : Pair) → m.body ≡ Keep q → It (if_on s m (Go (keep_of s m q)))
+    keep_does : (q : Pair) → m.body ≡ Keep q → It (if_on s m (Ok (keep_of s m q)))
     unfolding if_on keep_of
     keep_does q b =
         either It (has_replica s.power m.replica.0) _ _ (λ e. takes (record { given = q; body = b; on = e; plan = refl })) (λ e. tt)
@@ -115,7 +110,7 @@ module _ (s : Sight) where
         told : to_replica m.body ≡ false
         told = rw b
 
-        in_phase : current s.party m ≡ true → (o : Operation) → s.party.work ≡ Open o → (ph : Phase) → o.phase ≡ ph → It (tell_phase ph s m o q)
+        in_phase : current s.party m ≡ true → (o : Operation) → s.party.work ≡ Some o → (ph : Phase) → o.phase ≡ ph → It (tell_phase ph s m o q)
         in_phase c o w (Keeping held) p = spent told (rw (c, w, b, p))
         in_phase c o w (Asking held) p =
             either It (has_replica o.set m.replica.0) _ _ (λ z. spent told (rw (c, w, b, p, z)))
@@ -131,9 +126,9 @@ module _ (s : Sight) where
               new = z;
             }))
 
-        go : current s.party m ≡ true → (w : Work) → s.party.work ≡ w → It (tell_work w s m q)
-        go c Idle e = spent told (rw (c, e))
-        go c (Open o) e = in_phase c o e o.phase refl
+        go : current s.party m ≡ true → (w : Option Operation) → s.party.work ≡ w → It (tell_work w s m q)
+        go c None e = spent told (rw (c, e))
+        go c (Some o) e = in_phase c o e o.phase refl
 
     -- ---- a kept
 
@@ -151,7 +146,7 @@ module _ (s : Sight) where
         kept : to_replica m.body ≡ false
         kept = rw b
 
-        in_phase : current s.party m ≡ true → (o : Operation) → s.party.work ≡ Open o → (ph : Phase) → o.phase ≡ ph → Delivers s m (kept_in ph s m o)
+        in_phase : current s.party m ≡ true → (o : Operation) → s.party.work ≡ Some o → (ph : Phase) → o.phase ≡ ph → Delivers s m (kept_in ph s m o)
         in_phase c o w (Asking held) p = spent kept (rw (c, w, b, p))
         in_phase c o w (Keeping held) p =
             either (Delivers s m) (has_replica o.set m.replica.0) _ _ (λ z. spent kept (rw (c, w, b, p, z)))
@@ -166,9 +161,9 @@ module _ (s : Sight) where
               new = z;
             }))
 
-        go : current s.party m ≡ true → (w : Work) → s.party.work ≡ w → Delivers s m (kept_at w s m)
-        go c Idle e = spent kept (rw (c, e))
-        go c (Open o) e = in_phase c o e o.phase refl
+        go : current s.party m ≡ true → (w : Option Operation) → s.party.work ≡ w → Delivers s m (kept_at w s m)
+        go c None e = spent kept (rw (c, e))
+        go c (Some o) e = in_phase c o e o.phase refl
 
     deliver_does : (b : Body) → m.body ≡ b → It (deliver_turn b s m)
     unfolding deliver_turn
@@ -183,9 +178,9 @@ module _ (s : Sight) where
   unfolding resend_turn resend_in resend_of
   resend_does client = either (IfGo (Resends s client)) s.party.stopped _ _ (λ a. tt) (λ a. go a s.party.work refl)
     where
-      go : s.party.stopped ≡ false → (w : Work) → s.party.work ≡ w → IfGo (Resends s client) (resend_in w s client)
-      go a Idle e = tt
-      go a (Open o) e = record { acts = a; operation = o; before = e; plan = refl }
+      go : s.party.stopped ≡ false → (w : Option Operation) → s.party.work ≡ w → IfGo (Resends s client) (resend_in w s client)
+      go a None e = tt
+      go a (Some o) e = record { acts = a; operation = o; before = e; plan = refl }
 
   stop_does : IfGo (Stops s) (stop_turn s)
   unfolding stop_turn stop_of
@@ -193,16 +188,16 @@ module _ (s : Sight) where
 
   -- ---- every event
 
-  event_does : (held : InSlot) (e : Event) → IfGo (Does s held e) (turn_of s held e)
+  event_does : (held : Option Message) (e : Event) → IfGo (Does s held e) (turn_of s held e)
   unfolding turn_of slot_turn copy_of off_turn on_turn
   event_does held (StartRead client cell) = start_does client cell Read
   event_does held (StartWrite client cell v) = start_does client cell (Write v)
-  event_does Empty (Deliver slot) = tt
-  event_does (Full m) (Deliver slot) = deliver_does m m.body refl
-  event_does Empty (Lose slot) = tt
-  event_does (Full m) (Lose slot) = refl
-  event_does Empty (Copy slot) = tt
-  event_does (Full m) (Copy slot) = refl
+  event_does None (Deliver slot) = tt
+  event_does (Some m) (Deliver slot) = deliver_does m m.body refl
+  event_does None (Lose slot) = tt
+  event_does (Some m) (Lose slot) = refl
+  event_does None (Copy slot) = tt
+  event_does (Some m) (Copy slot) = refl
   event_does held (Resend client) = resend_does client
   event_does held (Stop client) = stop_does
   event_does held (Off replica) =
@@ -212,18 +207,18 @@ module _ (s : Sight) where
   event_does held Unknown = tt
 
   -- The law of plans: what is decided to be done of an event is what the method says.
-  pub method : (held : InSlot) (e : Event) (p : Plan) → decision_of s held e ≡ Go p → Does s held e p
+  pub method : (held : Option Message) (e : Event) (p : Plan) → decision_of s held e ≡ Ok p → Does s held e p
   method held e p q = subst (IfGo (Does s held e)) (in_turn s held e ∙ q) (event_does held e)
 
 -- ---- what is sent
 
 -- What a done event sends is of the client that the event is about.
-pub own_messages : (s : Sight) (held : InSlot) (e : Event) (p : Plan) → Does s held e p → (p.to ≡ 0) ⊎ (p.message.client.0 ≡ client_of e held)
+pub own_messages : (s : Sight) (held : Option Message) (e : Event) (p : Plan) → Does s held e p → (p.to ≡ 0) ⊎ (p.message.client.0 ≡ client_of e held)
 unfolding client_of client_in
 own_messages s held (StartRead client cell) p d = rw d.plan (inr refl)
 own_messages s held (StartWrite client cell v) p d = rw d.plan (inr refl)
-own_messages s Empty (Deliver slot) p d = absurd d
-own_messages s (Full m) (Deliver slot) p d = go d
+own_messages s None (Deliver slot) p d = absurd d
+own_messages s (Some m) (Deliver slot) p d = go d
   where
     go : Delivers s m p → (p.to ≡ 0) ⊎ (p.message.client.0 ≡ m.client.0)
     go (tells c) = rw c.plan (inr refl)
@@ -233,10 +228,10 @@ own_messages s (Full m) (Deliver slot) p d = go d
     go (counts c) = rw c.plan (inl refl)
     go (ends c) = rw c.plan (inl refl)
     go (spends c) = rw c.plan (inl refl)
-own_messages s Empty (Lose slot) p d = absurd d
-own_messages s (Full m) (Lose slot) p d = rw d (inl refl)
-own_messages s Empty (Copy slot) p d = absurd d
-own_messages s (Full m) (Copy slot) p d = rw d (inr refl)
+own_messages s None (Lose slot) p d = absurd d
+own_messages s (Some m) (Lose slot) p d = rw d (inl refl)
+own_messages s None (Copy slot) p d = absurd d
+own_messages s (Some m) (Copy slot) p d = rw d (inr refl)
 own_messages s held (Resend client) p d = rw d.plan (inr refl)
 own_messages s held (Stop client) p d = rw d.plan (inl refl)
 own_messages s held (Off replica) p d = rw d.plan (inl refl)

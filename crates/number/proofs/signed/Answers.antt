@@ -4,12 +4,6 @@ use Rattle.number.specs.Value.{signed_of}
 use Rattle.number.proofs.Signs.{held, minus_pos}
 use Rattle.number.proofs.signed.Goals as goal
 
-pub overflow_sub-result : goal.overflow_sub-result
-overflow_sub-result c =
-    let x = c.args.n in
-    let h = held (x / 2) (omega arith) in
-    simp (h, minus_pos) (record { sfits = omega arith })
-
 pub returns-then-n-eq0 : goal.returns-then-n-eq0
 unfolding signed_of
 returns-then-n-eq0 c =

@@ -1,16 +1,16 @@
 -- How long a number's bytes are, what a refusal to read can be, and what writing leaves.
-use Rattle.std.specs.Prelude.{ℕ, zero, suc, ◌+◌, ◌*◌, ◌/◌, ◌%◌, ◌^◌, ◌<◌, ◌≤◌, List, [], ◌∷◌, ◌≡◌, refl, Bool, true, false, cond, ◌⊎◌, drop, ltb}
-use Rattle.std.proofs.Common.{ap, sym, ◌∙◌, inl, inr, ⊎_elim, arith, lt-ltb, le-ltb, le-leb, ltb-true, ltb-false}
+use Rattle.std.specs.Prelude.{ℕ, zero, suc, ◌+◌, ◌*◌, ◌/◌, ◌%◌, ◌^◌, ◌<◌, ◌≤◌, List, [], ◌∷◌, ◌≡◌, refl, Bool, true, false, cond, ◌⊎◌, drop, ltb, Option, Some, None, Result, Ok, Err}
+use Rattle.std.proofs.Common.{ap, subst, sym, ◌∙◌, inl, inr, ⊎_elim, arith, lt-ltb, le-ltb, le-leb, ltb-true, ltb-false}
 use Rattle.std.proofs.Math.ListN.{length}
 use Rattle.std.proofs.lemmas.List.Edits.{sets}
 use Rattle.std.proofs.lemmas.Bool.{lt-leb}
 use Rattle.number.specs.Below.{byte_limit, Bytes}
 use Rattle.number.specs.Number.{group_size, fifth_most, groups_of, number_bytes, number_at, number_of, taken, ends_first, last_is_zero, fifth_above, value_of, put_answer, put_bytes}
-use Rattle.number.specs.Number.{Placed}
+use Rattle.number.specs.Number.{Number, Placed}
 use Rattle.number.specs.Wrote.{Wrote}
-use Rattle.number.specs.declared.Number.TheVariants.{Is, Refused}
-use Rattle.number.specs.declared.Put.{Put}
-use Rattle.number.specs.declared.Put.TheVariants.{Next, NoRoom}
+use Rattle.refusal.specs.declared.Refusal.{Refusal}
+use Rattle.refusal.specs.Number.{paper_number}
+use Rattle.refusal.specs.declared.Refusal.TheVariants.{EndsFirst, LastIsZero, FifthAbove}
 
 -- ---- the bytes of a number
 
@@ -86,28 +86,39 @@ bytes_below n h = groups_bytes 4 n h
 
 -- ---- refusals
 
-refused : (at k : ℕ) (bs : List ℕ) (e z a : Bool)
-    → cond e (Refused 21) (cond z (Refused 22) (cond a (Refused 23) (Is (value_of bs) (at + length bs)))) ≡ Refused k → (k ≡ 21) ⊎ ((k ≡ 22) ⊎ (k ≡ 23))
+-- what two equal answers that hand out two things say of each
+pub same_read : {A B E : Type 0} {a a' : A} {b b' : B} → ◌≡◌ {A = Result (A × B) E} (Ok (a, b)) (Ok (a', b')) → (a ≡ a') × (b ≡ b')
+same_read {A} {B} {E} {a} {a'} {b} {b'} p =
+    let q : ◌≡◌ {A = A × B} (a, b) (a', b') = cc in
+    (ap (λ (x : A × B). x.0) q, ap (λ (x : A × B). x.1) q)
+
+refused : (at : ℕ) (k : Refusal) (bs : List ℕ) (e z a : Bool)
+    → cond {A = Number} e (Err EndsFirst) (cond z (Err LastIsZero) (cond a (Err FifthAbove) (Ok (value_of bs, at + length bs)))) ≡ Err k
+    → (k ≡ EndsFirst) ⊎ ((k ≡ LastIsZero) ⊎ (k ≡ FifthAbove))
 refused at k bs true z a p = inl (cc)
 refused at k bs false true a p = inr (inl (cc))
 refused at k bs false false true p = inr (inr (cc))
 refused at k bs false false false p = let x : ◌≡◌ {A = ℕ} 0 1 = cc in absurd (omega arith)
 
 -- what is refused is refused with 21, 22 or 23
-pub refusals : (s : List ℕ) (at k : ℕ) → number_at s at ≡ Refused k → (k ≡ 21) ⊎ ((k ≡ 22) ⊎ (k ≡ 23))
+pub refusals : (s : List ℕ) (at : ℕ) (k : Refusal) → number_at s at ≡ Err k → (k ≡ EndsFirst) ⊎ ((k ≡ LastIsZero) ⊎ (k ≡ FifthAbove))
 unfolding number_at number_of
 refusals s at k p =
     let bs = taken 4 (drop at s) in
     refused at k bs (ends_first bs) (last_is_zero bs) (fifth_above bs) p
 
-pub refusal_bounds : (s : List ℕ) (at k : ℕ) → number_at s at ≡ Refused k → (21 ≤ k) × (k ≤ 23)
-refusal_bounds s at k p = ⊎_elim (λ e. (omega arith, omega arith)) (⊎_elim (λ e. (omega arith, omega arith)) (λ e. (omega arith, omega arith))) (refusals s at k p)
+pub refusal_bounds : (s : List ℕ) (at : ℕ) (k : Refusal) → number_at s at ≡ Err k → (21 ≤ paper_number k) × (paper_number k ≤ 23)
+unfolding paper_number
+refusal_bounds s at k p = ⊎_elim (λ e. within e (omega arith, omega arith)) (⊎_elim (λ e. within e (omega arith, omega arith)) (λ e. within e (omega arith, omega arith))) (refusals s at k p)
+  where
+    within : {j : Refusal} → k ≡ j → (21 ≤ paper_number j) × (paper_number j ≤ 23) → (21 ≤ paper_number k) × (paper_number k ≤ 23)
+    within e h = subst (λ (x : Refusal). (21 ≤ paper_number x) × (paper_number x ≤ 23)) (sym e) h
 
 -- ---- writing
 
 module _ (d : List ℕ) (at : ℕ) (bs : List ℕ) where
   -- where bytes fit, they stand from place at on, and the place after them is answered
-  pub put_fits : at + length bs ≤ length d → put_answer d at bs ≡ Next (at + length bs)
+  pub put_fits : at + length bs ≤ length d → put_answer d at bs ≡ Some (at + length bs)
   unfolding put_answer
   put_fits h = simp (le-leb (at + length bs) (length d) h)
 
@@ -116,7 +127,7 @@ module _ (d : List ℕ) (at : ℕ) (bs : List ℕ) where
   put_writes h = simp (le-leb (at + length bs) (length d) h)
 
   -- where they don't, nothing is changed
-  pub put_refused : length d < at + length bs → put_answer d at bs ≡ NoRoom
+  pub put_refused : length d < at + length bs → put_answer d at bs ≡ None
   unfolding put_answer
   put_refused h = simp (lt-leb (at + length bs) (length d) h)
 
@@ -125,20 +136,20 @@ module _ (d : List ℕ) (at : ℕ) (bs : List ℕ) where
   put_keeps h = simp (lt-leb (at + length bs) (length d) h)
 
   -- refusing what doesn't fit is what is asked, and so is writing what fits
-  pub refuses : length d < at + length bs → Placed d at bs NoRoom d
+  pub refuses : length d < at + length bs → Placed d at bs None d
   refuses h = record { answer = sym (put_refused h); bytes = sym (put_keeps h) }
 
-  pub places : (next : ℕ) (d' : List ℕ) → at + length bs ≤ length d → Wrote d at bs next d' → Placed d at bs (Next next) d'
-  places next d' h w = record { answer = ap Next w.place ∙ sym (put_fits h); bytes = w.list ∙ sym (put_writes h) }
+  pub places : (next : ℕ) (d' : List ℕ) → at + length bs ≤ length d → Wrote d at bs next d' → Placed d at bs (Some next) d'
+  places next d' h w = record { answer = ap Some w.place ∙ sym (put_fits h); bytes = w.list ∙ sym (put_writes h) }
 
   -- and what fits is written
-  pub placed_next : (d' : List ℕ) (next : ℕ) (r : Put) → at + length bs ≤ length d → Placed d at bs r d' → r ≡ Next next → Wrote d at bs next d'
+  pub placed_next : (d' : List ℕ) (next : ℕ) (r : Option ℕ) → at + length bs ≤ length d → Placed d at bs r d' → r ≡ Some next → Wrote d at bs next d'
   placed_next d' next r h w e =
       let p = sym (put_fits h) ∙ sym w.answer ∙ e in
       let q : at + length bs ≡ next = cc in
       record { place = sym q; list = w.bytes ∙ put_writes h }
 
-  pub placed_fits : (d' : List ℕ) (r : Put) → at + length bs ≤ length d → Placed d at bs r d' → r ≡ NoRoom → ⊥
+  pub placed_fits : (d' : List ℕ) (r : Option ℕ) → at + length bs ≤ length d → Placed d at bs r d' → r ≡ None → ⊥
   placed_fits d' r h w e =
       let p = sym (put_fits h) ∙ sym w.answer ∙ e in
       let z : ◌≡◌ {A = ℕ} 0 1 = cc in omega arith

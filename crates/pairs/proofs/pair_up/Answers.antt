@@ -1,44 +1,50 @@
-use Rattle.std.proofs.Common.{sym, ◌∙◌, lt-ltb, le-ltb}
+use Rattle.std.proofs.Common.{sym, ◌∙◌, lt-ltb, le-ltb, arith, ◌≡◌}
+use Rattle.record.specs.Record.{entry_limit}
 use Rattle.record.proofs.theorems.EntryTrip.{written_entry}
-use Rattle.pairs.proofs.theorems.Pairing.{pairs_none, pairs_full, pairs_unread, pairs_misplaced, pairs_few, pairs_end, pairs_on}
+use Rattle.pairs.proofs.theorems.Pairing.{pairs_none, pairs_full, pairs_unread, pairs_misplaced, pairs_end, pairs_on}
 use Rattle.pairs.proofs.pair_up.Goals as goal
 
-pub loop-at-init : goal.loop-at-init
-loop-at-init c = rw c.fresh-st.ensures (pairs_none _ _ _ _ _ c.lengths.ensures)
+pub loop-n-init : goal.loop-n-init
+loop-n-init c = rw c.fresh-st.ensures (pairs_none _ _ _ _ _ c.lengths.ensures)
 
-pub returns-then-n-eq-ENTRY_LIMIT : goal.returns-then-n-eq-ENTRY_LIMIT
-returns-then-n-eq-ENTRY_LIMIT c = pairs_full c.loop-at.invariant (lt-ltb _ _ c.loop-at-test.true) c.if-n-eq-ENTRY_LIMIT.true
+pub returns-then-s-at : goal.returns-then-s-at
+returns-then-s-at c = pairs_end c.loop-n.invariant (le-ltb _ _ c.if-s-at.true)
 
-pub returns-in-Fault : goal.returns-in-Fault
-returns-in-Fault c =
-    pairs_unread c.loop-at.invariant _ (lt-ltb _ _ c.loop-at-test.true)
-    c.if-n-eq-ENTRY_LIMIT.false (sym c.entry_at.ensures ∙ c.in-Fault.is)
+pub returns-in-Err : goal.returns-in-Err
+returns-in-Err c =
+    pairs_unread c.loop-n.invariant _ (lt-ltb _ _ c.if-s-at.false)
+    (omega arith) (sym c.entry_at.ensures ∙ c.in-Err.is)
 
-pub returns-then-k-ne0 : goal.returns-then-k-ne0
-returns-then-k-ne0 c =
-    pairs_misplaced c.loop-at.invariant _ _ _
-    (lt-ltb _ _ c.loop-at-test.true) c.if-n-eq-ENTRY_LIMIT.false
-    (sym c.entry_at.ensures ∙ c.in-At.is) c.fault-k.ensures c.if-k-ne0.true
+pub returns-in-Some : goal.returns-in-Some
+returns-in-Some c =
+    pairs_misplaced c.loop-n.invariant _ _ _
+    (lt-ltb _ _ c.if-s-at.false) (omega arith)
+    (sym c.entry_at.ensures ∙ c.in-Ok.is) (sym c.fault.ensures ∙ c.in-Some.is)
 
 pub note_entry-requires : goal.note_entry-requires
 note_entry-requires c = (
-  pairs_few c.loop-at.invariant
-      c.if-n-eq-ENTRY_LIMIT.false,
+  omega arith,
   (written_entry _ _ _ _ (λ i. (c.type_inv.s i).fits) (sym c.entry_at.ensures
-      ∙ c.in-At.is)).range,
-  c.loop-at.invariant.low,
+      ∙ c.in-Ok.is)).range,
+  c.loop-n.invariant.low,
 )
 
-pub loop-at-preserved : goal.loop-at-preserved
-loop-at-preserved c =
-    pairs_on c.loop-at.invariant _ _
+pub loop-n-preserved : goal.loop-n-preserved
+loop-n-preserved c =
+    pairs_on c.loop-n.invariant _ _
     (λ i. (c.type_inv.s i).fits)
-    (lt-ltb _ _ c.loop-at-test.true)
-    c.if-n-eq-ENTRY_LIMIT.false
+    (lt-ltb _ _ c.if-s-at.false) (omega arith)
     (sym c.entry_at.ensures
-    ∙ c.in-At.is)
-    (sym c.fault-k.ensures
-    ∙ c.if-k-ne0.false) c.note_entry.ensures c.after-st.ensures
+    ∙ c.in-Ok.is)
+    (sym c.fault.ensures
+    ∙ c.in_default.is) c.note_entry.ensures c.after-st.ensures
+
+pub returns-then-at-s : goal.returns-then-at-s
+returns-then-at-s c =
+    let e : c.loop-n.n ≡ entry_limit = omega arith in
+    rw e at (pairs_full c.loop-n.invariant (lt-ltb _ _ c.if-at-s.true) e)
 
 pub returns : goal.returns
-returns c = pairs_end c.loop-at.invariant (le-ltb _ _ c.loop-at-test.false)
+returns c =
+    let e : c.loop-n.n ≡ entry_limit = omega arith in
+    rw e at (pairs_end c.loop-n.invariant (le-ltb _ _ c.if-at-s.false))

@@ -1,21 +1,21 @@
 -- The first pass on its way: n entries are read and kept, the next one stands at place at of the bytes.
-use Rattle.std.specs.Prelude.{◌≡◌, refl, true, false, List, [], ◌∷◌, ◌++◌, ℕ, suc, ◌+◌, ◌≤◌, ◌<◌, ltb, replicate, length, get_or, set}
+use Rattle.std.specs.Prelude.{◌≡◌, refl, true, false, List, [], ◌∷◌, ◌++◌, ℕ, suc, ◌+◌, ◌≤◌, ◌<◌, ltb, replicate, length, get_or, set, None, Some, Ok, Err}
 use Rattle.std.proofs.Common.{sym, ap, ◌∙◌, arith, length-append, length-set, get_or-set_same, get_or-set_other}
 use mathlib.Core.List.Memᴰ.{not-nil as no_mem}
 use Rattle.std.proofs.Math.Decide.{ℕ_discrete}
 use Rattle.number.specs.Below.{byte_limit}
 use Rattle.record.specs.declared.Entry.{Entry}
 use Rattle.record.specs.declared.Entry.TheVariants.{ReadAsked, WriteAsked, Told, Done}
-use Rattle.record.specs.declared.Found.TheVariants.{At, Fault}
 use Rattle.record.specs.declared.Standing.{Standing}
-use Rattle.record.specs.declared.Answer.TheVariants.{All, Refused}
 use Rattle.record.specs.Entry.{last_client, client_limit, entry_at}
-use Rattle.record.specs.Record.{entry_limit, fresh, fault_after, standing_after, Held, entries, before, held_from, bytes_held, survey_of}
+use Rattle.record.specs.Record.{Answer, entry_limit, fresh, fault_after, standing_after, Held, entries, before, held_from, bytes_held, survey_of}
 use Rattle.record.specs.Legal.{InRange, Follows}
 use Rattle.record.specs.laws.Steps.{ends, onward, survey_tally, tally, counts_end, counts_full, counts_unread, counts_misplaced, counts_on}
 use Rattle.law.specs.Operation.{Op, note, notes, operations}
 use Rattle.law.specs.Standing.{standing_from, standing}
 use Rattle.law.proofs.theorems.Operations.{standing_append, operations_next, tied, fresh_none}
+use Rattle.refusal.specs.declared.Refusal.{Refusal}
+use Rattle.refusal.specs.declared.Refusal.TheVariants.{TooMany}
 use Rattle.pairs.specs.declared.Row.{Row}
 use Rattle.pairs.specs.Pairs.{Paired, PairsUp}
 use Rattle.pairs.specs.laws.Noting.{Long, Low, note_row, Noted}
@@ -35,7 +35,7 @@ unfolding prepend before
 prepend_none [] = refl
 prepend_none (x ∷ es) = ap (before x) (prepend_none es)
 
-follows_next : (st : Standing) (es : List Entry) (e : Entry) → Follows st es → InRange e → fault_after (standing_from st es) e ≡ 0 → Follows st (es ++ (e ∷ []))
+follows_next : (st : Standing) (es : List Entry) (e : Entry) → Follows st es → InRange e → fault_after (standing_from st es) e ≡ None → Follows st (es ++ (e ∷ []))
 follows_next st [] e f r z = (r, z, tt)
 follows_next st (x ∷ es) e f r z = (f.0, f.1, follows_next (standing_after st x) es e f.2 r z)
 
@@ -101,30 +101,30 @@ pairs_none s kinds cells values starts long =
 -- ---- at each turn
 
 -- a refusal is no record: the arrays are bound to nothing
-pub pairs_refused : (s kinds cells values starts : List ℕ) (k n : ℕ) → Refused k n ≡ tally (λ e. 1) 0 (bytes_held s) → PairsUp s (Refused k n) kinds cells values starts
+pub pairs_refused : (s kinds cells values starts : List ℕ) (k : Refusal) (n : ℕ) → ◌≡◌ {A = Answer} (Err (k, n)) (tally (λ e. 1) 0 (bytes_held s)) → PairsUp s (Err (k, n)) kinds cells values starts
 unfolding survey_of
 pairs_refused s kinds cells values starts k n p =
-    let q : Refused k n ≡ survey_of (bytes_held s) = p ∙ sym (survey_tally (bytes_held s)) in
+    let q : ◌≡◌ {A = Answer} (Err (k, n)) (survey_of (bytes_held s)) = p ∙ sym (survey_tally (bytes_held s)) in
     record {
       answer = q;
-      paired = λ es h. let a : Refused k n ≡ All (length es) = q ∙ ap survey_of h in let z : ◌≡◌ {A = ℕ} 0 1 = cc in absurd (omega arith);
+      paired = λ es h. let a : ◌≡◌ {A = Answer} (Err (k, n)) (Ok (length es)) = q ∙ ap survey_of h in let z : ◌≡◌ {A = ℕ} 0 1 = cc in absurd (omega arith);
     }
 
 module _ {s kinds cells values starts opened : List ℕ} {st : Standing} {at n : ℕ} (w : Pairing s kinds cells values starts opened st at n) where
-  pub pairs_full : ltb at (length s) ≡ true → n ≡ entry_limit → PairsUp s (Refused 28 n) kinds cells values starts
-  pairs_full h e = pairs_refused s kinds cells values starts 28 n (counts_full _ _ _ _ _ _ _ _ w.counting h e)
+  pub pairs_full : ltb at (length s) ≡ true → n ≡ entry_limit → PairsUp s (Err (TooMany, n)) kinds cells values starts
+  pairs_full h e = pairs_refused s kinds cells values starts TooMany n (counts_full _ _ _ _ _ _ _ _ w.counting h e)
 
-  pub pairs_unread : (k : ℕ) → ltb at (length s) ≡ true → (n ≡ entry_limit → ⊥) → entry_at s at ≡ Fault k → PairsUp s (Refused k n) kinds cells values starts
+  pub pairs_unread : (k : Refusal) → ltb at (length s) ≡ true → (n ≡ entry_limit → ⊥) → entry_at s at ≡ Err k → PairsUp s (Err (k, n)) kinds cells values starts
   pairs_unread k h l g = pairs_refused s kinds cells values starts k n (counts_unread _ _ _ _ _ _ _ _ w.counting k h l g)
 
-  pub pairs_misplaced : (k : ℕ) (e : Entry) (next : ℕ) → ltb at (length s) ≡ true → (n ≡ entry_limit → ⊥) → entry_at s at ≡ At e next → k ≡ fault_after st e → (k ≡ 0 → ⊥)
-      → PairsUp s (Refused k n) kinds cells values starts
-  pairs_misplaced k e next h l g q z = pairs_refused s kinds cells values starts k n (counts_misplaced _ _ _ _ _ _ _ _ w.counting k e next h l g q z)
+  pub pairs_misplaced : (k : Refusal) (e : Entry) (next : ℕ) → ltb at (length s) ≡ true → (n ≡ entry_limit → ⊥) → entry_at s at ≡ Ok (e, next) → fault_after st e ≡ Some k
+      → PairsUp s (Err (k, n)) kinds cells values starts
+  pairs_misplaced k e next h l g q = pairs_refused s kinds cells values starts k n (counts_misplaced _ _ _ _ _ _ _ _ w.counting k e next h l g q)
 
   pub pairs_few : (n ≡ entry_limit → ⊥) → n < entry_limit
   pairs_few l = omega (arith, w.counting.limit, l)
 
-  pub pairs_end : ltb at (length s) ≡ false → PairsUp s (All n) kinds cells values starts
+  pub pairs_end : ltb at (length s) ≡ false → PairsUp s (Ok n) kinds cells values starts
   pairs_end h =
       let all : bytes_held s ≡ entries w.read = w.held ∙ ap (prepend w.read) (ends _ _ w.counting.left at n st h) ∙ prepend_none w.read in
       record {
@@ -133,7 +133,7 @@ module _ {s kinds cells values starts opened : List ℕ} {st : Standing} {at n :
       }
 
   pub pairs_on : {kinds' cells' values' starts' opened' : List ℕ} {st' : Standing} (e : Entry) (next : ℕ) → ((i : ℕ) → get_or s i 0 < byte_limit)
-      → ltb at (length s) ≡ true → (n ≡ entry_limit → ⊥) → entry_at s at ≡ At e next → fault_after st e ≡ 0
+      → ltb at (length s) ≡ true → (n ≡ entry_limit → ⊥) → entry_at s at ≡ Ok (e, next) → fault_after st e ≡ None
       → Noted kinds cells values starts opened n (note_row cells opened n e) kinds' cells' values' starts' opened' → st' ≡ standing_after st e
       → Pairing s kinds' cells' values' starts' opened' st' next (n + 1)
   pairs_on e next bytes h l g z q t =
@@ -141,7 +141,7 @@ module _ {s kinds cells values starts opened : List ℕ} {st : Standing} {at n :
       let r : InRange e = (written_entry s at e next bytes g).range in
       let c = counts_on _ _ _ _ _ _ _ _ w.counting e next h l g z in
       let left : w.counting.left ≡ suc c.left = omega (arith, w.counting.limit, c.limit) in
-      let mine : fault_after (standing w.read) e ≡ 0 = ap (λ (x : Standing). fault_after x e) w.stands ∙ z in
+      let mine : fault_after (standing w.read) e ≡ None = ap (λ (x : Standing). fault_after x e) w.stands ∙ z in
       let ties = rw w.stands at (tied w.read w.follows) in
       let ops : operations (w.read ++ (e ∷ [])) ≡ note n e (operations w.read) = operations_next w.read e ∙ ap (λ (i : ℕ). note i e (operations w.read)) w.count in
       rw t (record {

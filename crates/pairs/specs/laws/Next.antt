@@ -1,5 +1,5 @@
 -- One entry more: with what is stored of it at the first free place, the arrays hold the operations after it.
-use Rattle.std.specs.Prelude.{◌≡◌, ◌≢◌, ◌⊎◌, Bool, cond, not, ◌&&◌, List, [], ◌∷◌, ◌++◌, map, ℕ, ◌+◌, ◌≤◌, ◌<◌, T, eqb, ℤ, pos, length, set}
+use Rattle.std.specs.Prelude.{◌≡◌, ◌≢◌, ◌⊎◌, Bool, cond, not, ◌&&◌, List, [], ◌∷◌, ◌++◌, map, ℕ, ◌+◌, ◌≤◌, ◌<◌, T, eqb, ℤ, pos, length, set, None}
 use Rattle.std.proofs.Math.Path.{refl, sym}
 use Rattle.std.proofs.Common.{ap, ◌∙◌, inl, inr, ⊎_elim, arith, get_or-set_same, get_or-set_other}
 use Rattle.std.proofs.Math.Bool.{true, false}
@@ -23,7 +23,7 @@ use Rattle.law.specs.Operation.{Op, asked, finished, note}
 use Rattle.law.specs.Order.{In}
 use Rattle.law.specs.laws.Lists.{in_next}
 use Rattle.law.specs.Standing.{has}
-use Rattle.law.specs.laws.Steps.{kind_of, ending, ending_keeps, ending_over, may_step}
+use Rattle.law.specs.laws.Steps.{kind_of, ending, ending_keeps, ending_over, no_fault, may_step}
 use Rattle.law.specs.laws.Operations.{Matches}
 use Rattle.law.proofs.theorems.Operations.{none_open, still_open}
 use Rattle.pairs.specs.Pairs.{StartsAt, EndsAt, Paired}
@@ -151,10 +151,6 @@ module _ (kinds cells values starts : List ℕ) (n : ℕ) (ops : List Op) (long 
 
 -- ---- any entry that may follow
 
-no_fault : (b : Bool) (n : ℕ) → n ≢ 0 → cond b 0 n ≡ 0 → b ≡ true
-no_fault true n d e = refl
-no_fault false n d e = absurd (d e)
-
 kind_read : (w : Bool) → kind_of w ≡ 1 → w ≡ false
 kind_read true e = absurd (omega arith)
 kind_read false e = refl
@@ -178,7 +174,7 @@ module _ (kinds cells values starts opened : List ℕ) (n : ℕ) (ops : List Op)
       let s : get_or opened k 0 ≡ o.number = ap (λ (j : ℕ). get_or opened j 0) (sym q) ∙ by o m z in
       ap (λ (j : ℕ). get_or cells j 0) s ∙ (old.started o m).1.cell
 
-  pub paired_next : Paired ops n kinds cells values starts → (e : Entry) → InRange e → fault_after st e ≡ 0
+  pub paired_next : Paired ops n kinds cells values starts → (e : Entry) → InRange e → fault_after st e ≡ None
       → Paired (note n e ops) (n + 1) (set kinds n (note_row cells opened n e).kind) (set cells n (note_row cells opened n e).cell.0)
       (set values n (note_row cells opened n e).value)
       (set starts n (note_row cells opened n e).start)
@@ -191,7 +187,7 @@ module _ (kinds cells values starts opened : List ℕ) (n : ℕ) (ops : List Op)
       paired_asks kinds cells values starts n ops long few old client.0 cell.0 true v row.kind row.value refl (λ t. refl)
   paired_next old (Told client v) r f =
       let row = note_row cells opened n (Told client v) in
-      let h : has st client.0 ≡ 1 = eqb-true _ 1 (no_fault (eqb (has st client.0) 1) 27 (λ e. omega arith) f) in
+      let h : has st client.0 ≡ 1 = eqb-true _ 1 (no_fault (eqb (has st client.0) 1) _ f) in
       let w = tied.found client.0 (λ z. omega arith) in
       let q = w.1.1.0 in
       let z = w.1.1.1 in
@@ -203,7 +199,7 @@ module _ (kinds cells values starts opened : List ℕ) (n : ℕ) (ops : List Op)
       (λ t. true_false t read) (λ t. refl)
   paired_next old (Done client) r f =
       let row = note_row cells opened n (Done client) in
-      let h : has st client.0 ≡ 2 = eqb-true _ 2 (no_fault (eqb (has st client.0) 2) 27 (λ e. omega arith) f) in
+      let h : has st client.0 ≡ 2 = eqb-true _ 2 (no_fault (eqb (has st client.0) 2) _ f) in
       let w = tied.found client.0 (λ z. omega arith) in
       let q = w.1.1.0 in
       let z = w.1.1.1 in
@@ -223,7 +219,7 @@ module _ (kinds cells values starts opened : List ℕ) (n : ℕ) (ops : List Op)
   open_ends : (k : ℕ) (v : ℤ → ℤ) (start : ℕ) → OpenAt (map (ending n k v) ops) (set opened k start)
   open_ends k v start x m o = let b = still_open n k v ops x m o in get_or-set_other opened k x.client start 0 b.1 ∙ by x b.0 o
 
-  pub open_next : length opened ≡ client_limit → (e : Entry) → InRange e → fault_after st e ≡ 0
+  pub open_next : length opened ≡ client_limit → (e : Entry) → InRange e → fault_after st e ≡ None
       → OpenAt (note n e ops) (set opened (note_row cells opened n e).client.0 (note_row cells opened n e).start)
   unfolding note
   open_next eight (ReadAsked client cell) r f = let a = may_step st (ReadAsked client cell) r f in open_asks eight client.0 cell.0 false (pos 0) a.0 a.2

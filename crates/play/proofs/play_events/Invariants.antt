@@ -5,8 +5,8 @@ use Rattle.script.specs.Script.{events_from, words_of}
 use Rattle.rack.specs.Run.{run_of}
 use Rattle.play.proofs.play_events.Given as goal
 
-abbrev pub invariant-loop-done : goal.invariant-loop-done
-invariant-loop-done l = (length l.words ≡ 2048) × Playing l.s l.allowance (run_of l.initial.r l.allowance (words_of (events_from l.s l.first))) l.r l.done l.at
+abbrev pub invariant-loop-ran : goal.invariant-loop-ran
+invariant-loop-ran l = (length l.words ≡ 2048) × (l.ran.refusal ≡ 0) × Playing l.s l.allowance (run_of l.fn.rack l.allowance (words_of (events_from l.s l.first))) l.ran.rack l.ran.done l.at
 
-abbrev pub decreases-loop-done : goal.decreases-loop-done
-decreases-loop-done l = l.allowance - l.done
+abbrev pub decreases-loop-ran : goal.decreases-loop-ran
+decreases-loop-ran l = l.allowance - l.ran.done

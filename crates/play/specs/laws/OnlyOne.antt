@@ -1,6 +1,8 @@
 -- No other outcome fits a call, and wrong ones do not meet its contract.
-use Rattle.std.specs.Prelude.{ℕ, ◌≡◌, refl, List, [], ◌∷◌}
+use Rattle.std.specs.Prelude.{ℕ, ◌≡◌, refl, List, [], ◌∷◌, Err}
 use Rattle.std.proofs.Common.{sym, ap, ◌∙◌, arith}
+use Rattle.refusal.specs.declared.Refusal.TheVariants.{EndsFirst}
+use Rattle.refusal.specs.Number.{paper_number}
 use Rattle.number.specs.Number.{number_at, number_of, taken, last_of, and_then}
 use Rattle.text.specs.Text.{digits_of, Printed}
 use Rattle.text.specs.laws.OnlyOne.{only_one}
@@ -9,9 +11,7 @@ use Rattle.rack.specs.declared.Ran.{Ran}
 use Rattle.rack.specs.Sound.{settings_fit}
 use Rattle.rack.specs.Run.{made_of}
 use Rattle.lines.specs.Lines.{fault_line}
-use Rattle.play.specs.declared.Recorded.{Recorded}
-use Rattle.play.specs.declared.Recorded.TheVariants.{Fault}
-use Rattle.play.specs.Play.{played_of, drill_text, record_bytes_of, recorded_of, Records}
+use Rattle.play.specs.Play.{Recorded, played_of, drill_text, record_bytes_of, recorded_of, Records}
 use Rattle.play.specs.Answers.{refusal_in, fault_in, count_in}
 use Rattle.play.specs.Same.{SameRan, SameRecorded}
 
@@ -46,16 +46,16 @@ one_drilled before s a b = only_one before 0 (drill_text s) a b
 
 -- of no bytes it is said that they are refused 21 at byte 0
 pub nothing_drilled : drill_text [] ≡ 114 ∷ 101 ∷ 102 ∷ 117 ∷ 115 ∷ 101 ∷ 100 ∷ 32 ∷ 50 ∷ 49 ∷ 32 ∷ 97 ∷ 116 ∷ 32 ∷ 98 ∷ 121 ∷ 116 ∷ 101 ∷ 32 ∷ 48 ∷ 10 ∷ []
-unfolding drill_text script_of head_of and_then number_at number_of taken last_of fault_line digits_of
+unfolding drill_text script_of head_of and_then number_at number_of taken last_of paper_number fault_line digits_of
 nothing_drilled = refl
 
 -- that is not left unsaid
 pub not_silent : (after : List ℕ) → Printed (7 ∷ []) 0 (drill_text []) 0 after → ⊥
-unfolding drill_text script_of head_of and_then number_at number_of taken last_of fault_line digits_of
+unfolding drill_text script_of head_of and_then number_at number_of taken last_of paper_number fault_line digits_of
 not_silent after p = omega (arith, p.place)
 
 pub not_unwritten : (r : ℕ) → Printed (7 ∷ []) 0 (drill_text []) r (7 ∷ []) → ⊥
-unfolding drill_text script_of head_of and_then number_at number_of taken last_of fault_line digits_of
+unfolding drill_text script_of head_of and_then number_at number_of taken last_of paper_number fault_line digits_of
 not_unwritten r p = let e : ◌≡◌ {A = List ℕ} (7 ∷ []) (114 ∷ []) = p.list in
     let z : ◌≡◌ {A = ℕ} 7 114 = cc in omega arith
 
@@ -67,13 +67,13 @@ one_recorded s before r r' after other a b =
     record { refusal = ap refusal_in e; fault = ap fault_in e; count = ap count_in e; same = e; lent = a.lent ∙ sym b.lent }
 
 -- no bytes are no script: refused 21 at byte 0, and nothing is written
-pub nothing_recorded : recorded_of [] 1 ≡ Fault 21 0
+pub nothing_recorded : recorded_of [] 1 ≡ Err (EndsFirst, 0)
 unfolding recorded_of script_of head_of and_then number_at number_of taken last_of
 nothing_recorded = refl
 
 -- that is not passed over as a run, and the lent bytes are not cleared
 pub not_run_of_nothing : (r : Recorded) (after : List ℕ) → Records [] (7 ∷ []) r after → refusal_in r ≡ 0 → ⊥
-unfolding refusal_in
+unfolding refusal_in paper_number
 not_run_of_nothing r after p h = let e = ap refusal_in (p.answer ∙ nothing_recorded) in omega (arith, e)
 
 pub not_cleared : (r : Recorded) → Records [] (7 ∷ []) r (0 ∷ []) → ⊥
@@ -83,5 +83,5 @@ not_cleared r p = let e : ◌≡◌ {A = List ℕ} (0 ∷ []) (7 ∷ []) = p.len
 
 -- what they say: a fault is 21 at byte 0 with no bytes written
 pub says_fault : (refusal_in (recorded_of [] 1) ≡ 21) × ((fault_in (recorded_of [] 1) ≡ 0 ∷ []) × (count_in (recorded_of [] 1) ≡ 0))
-unfolding refusal_in fault_in count_in
+unfolding refusal_in paper_number fault_in count_in
 says_fault = (ap refusal_in nothing_recorded, (ap fault_in nothing_recorded, ap count_in nothing_recorded))

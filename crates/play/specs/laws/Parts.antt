@@ -1,13 +1,12 @@
 -- A script run in parts is the script run whole.
-use Rattle.std.specs.Prelude.{ℕ, zero, suc, ◌+◌, ◌-◌, ◌*◌, ◌/◌, ◌≤◌, ◌<◌, min, ◌≡◌, refl, Bool, true, false, List, [], ◌∷◌, ◌++◌, length, drop, ltb}
+use Rattle.std.specs.Prelude.{ℕ, zero, suc, ◌+◌, ◌-◌, ◌*◌, ◌/◌, ◌≤◌, ◌<◌, min, ◌≡◌, refl, Bool, true, false, List, [], ◌∷◌, ◌++◌, length, drop, ltb, Err, Ok}
 use Rattle.std.proofs.Common.{sym, ap, ◌∙◌, arith, ltb-true, ltb-false}
 use Rattle.std.proofs.lemmas.List.Edits.{sets, sets-eq}
 use Rattle.std.proofs.Math.Seq.{length-sets, drop-append_seam}
 use Rattle.script.specs.declared.Filled.{Filled}
 use Rattle.script.specs.Script.{events_from, words_of, words_up_to, count_up_to, place_after, Fills}
 use Rattle.script.specs.laws.Steps.{four_each, few_each, words_parts, no_words}
-use Rattle.method.specs.declared.Decision.{Decision}
-use Rattle.method.specs.declared.Decision.TheVariants.{No, Go}
+use Rattle.method.specs.Decision.{Decision}
 use Rattle.rack.specs.declared.Rack.{Rack}
 use Rattle.rack.specs.declared.Ran.{Ran}
 use Rattle.rack.specs.Sound.{sound_of}
@@ -30,8 +29,8 @@ from_front (suc n) done r (k ∷ a ∷ b ∷ v ∷ xs) ys zs h = go (decided r (
   where
     go : (o : Decision) → ((q : Rack) → run_from (done + 1) q n (xs ++ ys) ≡ run_from (done + 1) q n (xs ++ zs))
         → turn done r (event_of k a b v) o (λ q. run_from (done + 1) q n (xs ++ ys)) ≡ turn done r (event_of k a b v) o (λ q. run_from (done + 1) q n (xs ++ zs))
-    go (No x) ih = refl
-    go (Go p) ih = ih (applied_of r (event_of k a b v) p)
+    go (Err x) ih = refl
+    go (Ok p) ih = ih (applied_of r (event_of k a b v) p)
 
 pub run_front : (n : ℕ) (r : Rack) (xs ys zs : List ℕ) → sound_of r ≡ true → 4 * n ≤ length xs → run_of r n (xs ++ ys) ≡ run_of r n (xs ++ zs)
 run_front n r xs ys zs s h = run_from_lem r n (xs ++ ys) ∙ from_front n 0 r xs ys zs h ∙ sym (run_from_lem r n (xs ++ zs))
@@ -167,6 +166,14 @@ module _ (s : List ℕ) (allowance : ℕ) (whole : Ran) (r : Rack) (done at : �
 -- no more are done than were tried
 pub few_done : (r : Rack) (n : ℕ) (ws : List ℕ) (q : Ran) → q ≡ run_of r n ws → q.done ≤ n
 few_done r n ws q e = rw e (run_steps r n ws).most
+
+-- and where all were done, none was refused
+pub none_refused : (r : Rack) (n : ℕ) (ws : List ℕ) (q : Ran) → q ≡ run_of r n ws → n ≤ q.done → q.refusal ≡ 0
+none_refused r n ws q e h =
+    let x = run_steps r n ws in
+    let least : n ≤ (run_of r n ws).done = rw e at h in
+    let count : (run_of r n ws).done ≡ n = omega (arith, x.most, least) in
+    ap (λ (y : Ran). y.refusal) (e ∙ rw count at x.same)
 
 -- filling changes no length
 pub still_long : {s : List ℕ} {at : ℕ} {d d' : List ℕ} {f : Filled} → Fills s at d f d' → length d ≡ 2048 → length d' ≡ 2048

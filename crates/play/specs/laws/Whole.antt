@@ -1,11 +1,10 @@
 -- `text_room` bytes, 262,144, take all that there is to say of any script.
-use Rattle.std.specs.Prelude.{ℕ, ◌+◌, ◌≤◌, ◌≡◌, Bool, true, false, cond, List, ◌++◌, eqb, length, take, drop}
+use Rattle.std.specs.Prelude.{ℕ, ◌+◌, ◌≤◌, ◌≡◌, Bool, true, false, cond, List, ◌++◌, eqb, length, take, drop, Ok, Err}
 use Rattle.std.proofs.Common.{ap₂, ◌∙◌, arith}
 use Rattle.std.proofs.lemmas.List.Edits.{sets-eq}
 use Rattle.std.proofs.Math.Seq.{take-append_seam}
-use Rattle.script.specs.declared.Words.{Words}
-use Rattle.script.specs.declared.Words.TheVariants.{Are, Refused}
-use Rattle.script.specs.Script.{script_of, events_from, words_of}
+use Rattle.refusal.specs.Number.{paper_number}
+use Rattle.script.specs.Script.{Words, script_of, events_from, words_of}
 use Rattle.rack.specs.declared.Made.{Made}
 use Rattle.rack.specs.laws.Fresh.{made_sound}
 use Rattle.rack.specs.Sound.{sound_of}
@@ -34,8 +33,8 @@ unfolding drill_text
 drill_fits s = go (script_of s)
   where
     go : (w : Words) → length (text_after s w) ≤ text_room
-    go (Refused refusal byte) = fault_fits refusal byte
-    go (Are replicas clients cells allowance first) =
+    go (Err (refusal, byte)) = fault_fits (paper_number refusal) byte
+    go (Ok (replicas, clients, cells, allowance, first)) =
         ran_fits (played_of s replicas clients cells allowance first) (played_sound s replicas clients cells allowance first)
 
 -- so in as many bytes the text stands whole, and the place after it is its length

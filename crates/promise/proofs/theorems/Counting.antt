@@ -1,5 +1,5 @@
 -- A client counts a kept: its operation counts it, and with enough kept it ends.
-use Rattle.std.specs.Prelude.{ℕ, suc, ◌<◌, ◌≡◌, refl, ◌≢◌, true}
+use Rattle.std.specs.Prelude.{ℕ, suc, ◌<◌, ◌≡◌, refl, ◌≢◌, true, Some, None, Option}
 use Rattle.std.proofs.Common.{sym, ap, ◌∙◌, subst, arith}
 use Rattle.record.specs.declared.Entry.{Entry}
 use Rattle.record.specs.Record.{entry_limit}
@@ -7,11 +7,8 @@ use Rattle.quorum.specs.Sets.{keeps_enough}
 use Rattle.law.specs.Operation.{note, operations}
 use Rattle.method.specs.declared.Body.TheVariants.{Kept}
 use Rattle.method.specs.declared.Message.{Message}
-use Rattle.method.specs.declared.InSlot.TheVariants.{Full}
 use Rattle.method.specs.declared.Phase.{Phase}
 use Rattle.method.specs.declared.Operation.{Operation}
-use Rattle.method.specs.declared.Work.{Work}
-use Rattle.method.specs.declared.Work.TheVariants.{Idle, Open}
 use Rattle.method.specs.declared.Event.{Event}
 use Rattle.method.specs.declared.Note.TheVariants.{Nothing, Ended}
 use Rattle.method.specs.declared.Plan.{Plan}
@@ -40,7 +37,7 @@ use Rattle.promise.specs.laws.Moves.{Moved, moved, moved_on}
 use Rattle.promise.proofs.theorems.Advance.{advance, book_on, no_note, sends_none}
 
 module _ (r : Rack) (e : Event) (m : Message) (v : View) (name : ℕ → ℕ → ℕ) (t : Tie r v name) (l : Looked r e)
-    (here : looked_held r e ≡ Full m) (own : m.client.0 ≡ looked_client r e) (h : Counted (sight r e) m) where
+    (here : looked_held r e ≡ Some m) (own : m.client.0 ≡ looked_client r e) (h : Counted (sight r e) m) where
   -- the setting of this rack: its sets of replicas, its quorums and its stamps
   abbrev S : Setting
   S = setting_of (quorums_of r.settings)
@@ -70,7 +67,7 @@ module _ (r : Rack) (e : Event) (m : Message) (v : View) (name : ℕ → ℕ →
       subst (λ (ph : Phase). Stands v.ops client o (open_phase ph o client x)) h.phase (subst (At v.ops client o) h.before (t.clients client l.client))
 
   fits : Opened r.settings x
-  fits = opened r.settings x (subst (λ (w : Work). work_fits r.settings w ≡ true) h.before l.work)
+  fits = opened r.settings x (subst (λ (w : Option Operation). work_fits r.settings w ≡ true) h.before l.work)
 
   f : Found r e v name m Kept
   f = found r e v name m Kept t l (record { here = here; client = own; body = h.body })
@@ -93,7 +90,7 @@ module _ (r : Rack) (e : Event) (m : Message) (v : View) (name : ℕ → ℕ →
 
   -- the plan of the kept
   abbrev pub count_plan : Plan
-  count_plan = planned (sight r e) (active_party (op_of r client) (Open (keeping x (counted_set h) h.held))) true Nothing m 0
+  count_plan = planned (sight r e) (active_party (op_of r client) (Some (keeping x (counted_set h) h.held))) true Nothing m 0
 
   -- the record shows the same after the kept
   book : (p : Plan) → Book counted_view.ops (operations (record_of r))
@@ -137,7 +134,7 @@ module _ (r : Rack) (e : Event) (m : Message) (v : View) (name : ℕ → ℕ →
 
     -- the plan of the kept
     abbrev pub end_plan : Plan
-    end_plan = planned (sight r e) (active_party (op_of r client) Idle) true (Ended entry) m 0
+    end_plan = planned (sight r e) (active_party (op_of r client) None) true (Ended entry) m 0
 
     after : operations (record_of (applied_of r e end_plan)) ≡ note v.now entry (operations (record_of r))
     after =

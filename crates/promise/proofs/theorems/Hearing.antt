@@ -1,5 +1,5 @@
 -- A client counts a tell: its operation hears it, and with enough told it chooses its pair.
-use Rattle.std.specs.Prelude.{ℕ, ◌≡◌, refl, true}
+use Rattle.std.specs.Prelude.{ℕ, ◌≡◌, refl, true, Some, None, Option}
 use Rattle.std.proofs.Common.{sym, ap, ◌∙◌, subst, arith}
 use Rattle.quorum.specs.Sets.{asks_enough, every_replica, members_of}
 use Rattle.law.specs.Order.{In}
@@ -7,14 +7,9 @@ use Rattle.stamps.specs.declared.Pair.{Pair}
 use Rattle.stamps.specs.StampOrder.{Ranked}
 use Rattle.method.specs.declared.Body.TheVariants.{Tell, Keep}
 use Rattle.method.specs.declared.Message.{Message}
-use Rattle.method.specs.declared.InSlot.TheVariants.{Full}
-use Rattle.method.specs.declared.Holding.{Holding as Held}
-use Rattle.method.specs.declared.Holding.TheVariants.{NoPair, Holds}
 use Rattle.method.specs.declared.Phase.{Phase}
 use Rattle.method.specs.declared.Phase.TheVariants.{Asking}
 use Rattle.method.specs.declared.Operation.{Operation}
-use Rattle.method.specs.declared.Work.{Work}
-use Rattle.method.specs.declared.Work.TheVariants.{Open}
 use Rattle.method.specs.declared.Event.{Event}
 use Rattle.method.specs.declared.Note.TheVariants.{Nothing}
 use Rattle.method.specs.declared.Plan.{Plan}
@@ -42,12 +37,12 @@ use Rattle.promise.specs.laws.Moves.{Moved, moved, moved_on}
 use Rattle.promise.proofs.theorems.Advance.{advance, book_on, no_note, sends_none}
 
 -- what fits a rack has a rank that a client has
-held_ranked : (z : Settings) → Sized z → (set : ℕ) (held : Held) → HoldingFits z set held → HeldRanked set held
-held_ranked z n set NoPair h = h
-held_ranked z n set (Holds p) h = (h.0, fits_ranked z n p h.1)
+held_ranked : (z : Settings) → Sized z → (set : ℕ) (held : Option Pair) → HoldingFits z set held → HeldRanked set held
+held_ranked z n set None h = h
+held_ranked z n set (Some p) h = (h.0, fits_ranked z n p h.1)
 
 module _ (r : Rack) (e : Event) (m : Message) (v : View) (name : ℕ → ℕ → ℕ) (t : Tie r v name) (l : Looked r e) (z : Sized r.settings)
-    (here : looked_held r e ≡ Full m) (own : m.client.0 ≡ looked_client r e) (h : Heard (sight r e) m) where
+    (here : looked_held r e ≡ Some m) (own : m.client.0 ≡ looked_client r e) (h : Heard (sight r e) m) where
   -- the setting of this rack: its sets of replicas, its quorums and its stamps
   abbrev S : Setting
   S = setting_of (quorums_of r.settings)
@@ -77,7 +72,7 @@ module _ (r : Rack) (e : Event) (m : Message) (v : View) (name : ℕ → ℕ →
       subst (λ (ph : Phase). Stands v.ops client o (open_phase ph o client x)) h.phase (subst (At v.ops client o) h.before (t.clients client l.client))
 
   fits : Opened r.settings x
-  fits = opened r.settings x (subst (λ (w : Work). work_fits r.settings w ≡ true) h.before l.work)
+  fits = opened r.settings x (subst (λ (w : Option Operation). work_fits r.settings w ≡ true) h.before l.work)
 
   held_rank : HeldRanked x.set h.held
   held_rank =
@@ -110,7 +105,7 @@ module _ (r : Rack) (e : Event) (m : Message) (v : View) (name : ℕ → ℕ →
 
   -- the plan of the tell
   abbrev pub hear_plan : Plan
-  hear_plan = planned (sight r e) (active_party (op_of r client) (Open (asking x (heard_set h) (heard_pair h)))) true Nothing m 0
+  hear_plan = planned (sight r e) (active_party (op_of r client) (Some (asking x (heard_set h) (heard_pair h)))) true Nothing m 0
 
   pub hears_next : Next r e hear_plan v name heard_view name
   hears_next =
@@ -148,7 +143,7 @@ module _ (r : Rack) (e : Event) (m : Message) (v : View) (name : ℕ → ℕ →
     -- the plan of the tell
     abbrev pub choose_plan : Plan
     choose_plan =
-        planned (sight r e) (active_party (op_of r client) (Open (keeping x 0 chosen))) true Nothing
+        planned (sight r e) (active_party (op_of r client) (Some (keeping x 0 chosen))) true Nothing
         (to_replicas m.client x.cell (op_of r client) (Keep chosen)) (every_replica r.settings.replicas)
 
     keep_true : Chose chose_view o x.cell.0 (pair_of chosen)

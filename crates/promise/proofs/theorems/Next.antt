@@ -1,5 +1,5 @@
 -- One event: what the view after it owes, so that the tie stays.
-use Rattle.std.specs.Prelude.{ℕ, ◌+◌, ◌≤◌, ◌<◌, ◌≡◌, refl, ◌≢◌, List, get_or, set, length}
+use Rattle.std.specs.Prelude.{ℕ, ◌+◌, ◌≤◌, ◌<◌, ◌≡◌, refl, ◌≢◌, List, get_or, set, length, None, Some, Option}
 use Rattle.std.proofs.Common.{ap, ◌∙◌, arith, get_or-set_same, get_or-set_other}
 use Rattle.std.proofs.Math.Decide.{ℕ_discrete}
 use Rattle.std.proofs.Math.ListN.{length-set}
@@ -8,8 +8,6 @@ use Rattle.law.specs.Operation.{operations}
 use Rattle.law.specs.Order.{In}
 use Rattle.method.specs.declared.Body.{Body}
 use Rattle.method.specs.declared.Message.{Message}
-use Rattle.method.specs.declared.InSlot.{InSlot}
-use Rattle.method.specs.declared.InSlot.TheVariants.{Empty, Full}
 use Rattle.method.specs.declared.Party.{Party}
 use Rattle.rack.specs.declared.Line.{Line}
 use Rattle.record.specs.Entry.{client_limit}
@@ -75,9 +73,9 @@ pub record Next (r : Rack) (e : Event) (p : Plan) (v : View) (name : ℕ → ℕ
 
 -- ---- the tie stays
 
-slot_map : (P Q : Message → Type 0) → ((m : Message) → P m → Q m) → (h : InSlot) → Holding P h → Holding Q h
-slot_map P Q f Empty t = t
-slot_map P Q f (Full m) t = f m t
+slot_map : (P Q : Message → Type 0) → ((m : Message) → P m → Q m) → (h : Option Message) → Holding P h → Holding Q h
+slot_map P Q f None t = t
+slot_map P Q f (Some m) t = f m t
 
 recorded_long : (n : Note) (count : ℕ) (lines : List Line) → length (recorded n count lines) ≡ length lines
 unfolding recorded

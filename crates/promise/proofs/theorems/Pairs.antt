@@ -1,5 +1,5 @@
 -- The method's choices between pairs are those of the view.
-use Rattle.std.specs.Prelude.{ℕ, ◌≡◌, refl, ◌≢◌, Bool, true, false, cond, ◌||◌, ℤ}
+use Rattle.std.specs.Prelude.{ℕ, ◌≡◌, refl, ◌≢◌, Bool, true, false, cond, ◌||◌, ℤ, None, Some, Option}
 use Rattle.std.proofs.Common.{sym, ◌∙◌, ap, eq-eqb, ne_eqb}
 use Rattle.record.specs.declared.Cell.{Cell}
 use Rattle.quorum.specs.declared.Quorums.{Quorums}
@@ -8,8 +8,6 @@ use Rattle.stamps.specs.Stamp.{stamp_less, raised}
 use Rattle.stamps.specs.StampOrder.{Ranked, stamp_of}
 use Rattle.stamps.specs.laws.StampOrderLaws.{stamp_order}
 use Rattle.method.specs.laws.Tests.{whichever}
-use Rattle.method.specs.declared.Holding.{Holding as Held}
-use Rattle.method.specs.declared.Holding.TheVariants.{NoPair, Holds}
 use Rattle.method.specs.declared.Goal.{Goal}
 use Rattle.method.specs.declared.Goal.TheVariants.{Read, Write}
 use Rattle.protocol.specs.View.{Pair as Seen}
@@ -35,16 +33,16 @@ raised_seen own given after ho hg q = go (stamp_less own.stamp given.stamp) refl
     go false e q = rw (newer_is own given ho hg false e, q)
 
 -- what is held in the ask phase: nothing with an empty set, and else a pair whose rank is a client's
-abbrev pub HeldRanked : ℕ → Held → Type 0
-HeldRanked set NoPair = set ≡ 0
-HeldRanked set (Holds p) = (set ≢ 0) × Ranked p.stamp
+abbrev pub HeldRanked : ℕ → Option Pair → Type 0
+HeldRanked set None = set ≡ 0
+HeldRanked set (Some p) = (set ≢ 0) × Ranked p.stamp
 
 -- what an asking operation holds after a tell
-pub holds_seen : (o c : ℕ) (cell : Cell) (goal : Goal) (set : ℕ) (held : Held) (told : Pair) → HeldRanked set held → Ranked told.stamp
+pub holds_seen : (o c : ℕ) (cell : Cell) (goal : Goal) (set : ℕ) (held : Option Pair) (told : Pair) → HeldRanked set held → Ranked told.stamp
     → held_of (open_with 1 o c cell goal set (held_in held)) (pair_of told) ≡ pair_of (holds held told)
 unfolding holds
-holds_seen o c cell goal set NoPair told h ht = rw (eq-eqb set 0 h)
-holds_seen o c cell goal set (Holds p) told h ht =
+holds_seen o c cell goal set None told h ht = rw (eq-eqb set 0 h)
+holds_seen o c cell goal set (Some p) told h ht =
     ap (λ (t : Bool). cond (t || newer (pair_of p) (pair_of told)) (pair_of told) (pair_of p)) (ne_eqb set 0 h.0)
     ∙ raised_seen p told (raised p told) h.1 ht refl
 
@@ -53,10 +51,10 @@ raised_rank : (own given after : Pair) → Ranked own.stamp → Ranked given.sta
 unfolding raised
 raised_rank own given after ho hg q = rw q (whichever (λ (p : Pair). Ranked p.stamp) (stamp_less own.stamp given.stamp) given own hg ho)
 
-pub holds_rank : (set : ℕ) (held : Held) (told : Pair) → HeldRanked set held → Ranked told.stamp → Ranked (holds held told).stamp
+pub holds_rank : (set : ℕ) (held : Option Pair) (told : Pair) → HeldRanked set held → Ranked told.stamp → Ranked (holds held told).stamp
 unfolding holds
-holds_rank set NoPair told h ht = ht
-holds_rank set (Holds p) told h ht = raised_rank p told (raised p told) h.1 ht refl
+holds_rank set None told h ht = ht
+holds_rank set (Some p) told h ht = raised_rank p told (raised p told) h.1 ht refl
 
 -- what it chooses
 written_seen : (q : Quorums) (c : ℕ) (v : ℤ) (held chosen : Pair) → Ranked held.stamp → Written c v held chosen

@@ -1,12 +1,11 @@
 -- Events that no move stands for: what loses, copies, sends again, stops, switches or answers an ask leaves the view as it was.
-use Rattle.std.specs.Prelude.{ℕ, ◌≡◌, refl}
+use Rattle.std.specs.Prelude.{ℕ, ◌≡◌, refl, Some}
 use Rattle.std.proofs.Common.{ap, ◌∙◌, subst, arith}
 use Rattle.record.specs.declared.Client.{Client}
 use Rattle.quorum.specs.Sets.{members_of}
 use Rattle.law.specs.Order.{In}
 use Rattle.method.specs.declared.Body.TheVariants.{Ask, Tell}
 use Rattle.method.specs.declared.Message.{Message}
-use Rattle.method.specs.declared.InSlot.TheVariants.{Full}
 use Rattle.method.specs.declared.Phase.{Phase}
 use Rattle.method.specs.declared.Phase.TheVariants.{Asking, Keeping}
 use Rattle.method.specs.declared.Operation.{Operation}
@@ -63,7 +62,7 @@ module _ (r : Rack) (e : Event) (v : View) (name : ℕ → ℕ → ℕ) (t : Tie
 
   -- ---- the slot's message once more
 
-  module _ (m : Message) (here : looked_held r e ≡ Full m) (own : m.client.0 ≡ client) where
+  module _ (m : Message) (here : looked_held r e ≡ Some m) (own : m.client.0 ≡ client) where
     pub copies_next : (p : Plan) → Copies (sight r e) m p → Next r e p v name v name
     copies_next p c =
         quiet p (ap (λ (q : Plan). q.party.op) c) (ap (λ (q : Plan). q.party.work) c) (ap (λ (q : Plan). q.note) c) (ap (λ (q : Plan). q.pair) c)

@@ -1,5 +1,5 @@
 -- Every run from a fresh rack has a view: each event that is done is some legal moves, and the tie stays.
-use Rattle.std.specs.Prelude.{ℕ, zero, suc, ◌+◌, ◌≤◌, ◌<◌, ◌≡◌, refl, true, false, List, [], ◌∷◌, get_or, replicate}
+use Rattle.std.specs.Prelude.{ℕ, zero, suc, ◌+◌, ◌≤◌, ◌<◌, ◌≡◌, refl, true, false, List, [], ◌∷◌, get_or, replicate, None, Some, Err, Ok, Option}
 use Rattle.std.proofs.Common.{ap, sym, ◌∙◌, subst, arith}
 use mathlib.Core.List.Memᴰ.{not-nil as no_mem}
 use Rattle.std.proofs.Math.Decide.{dec_lt}
@@ -15,17 +15,13 @@ use Rattle.quorum.specs.Sets.{every_replica}
 use Rattle.stamps.specs.Stamp.{fresh_pair}
 use Rattle.method.specs.declared.Body.TheVariants.{Ask}
 use Rattle.method.specs.declared.Message.{Message}
-use Rattle.method.specs.declared.InSlot.{InSlot}
-use Rattle.method.specs.declared.InSlot.TheVariants.{Empty, Full}
 use Rattle.method.specs.declared.Goal.{Goal}
 use Rattle.method.specs.declared.Goal.TheVariants.{Read, Write}
-use Rattle.method.specs.declared.Work.TheVariants.{Open}
 use Rattle.method.specs.declared.Event.{Event}
 use Rattle.method.specs.declared.Event.TheVariants.{StartRead, StartWrite, Deliver, Lose, Copy, Resend, Stop, Off, On, Unknown}
 use Rattle.method.specs.declared.Note.TheVariants.{Nothing, Asked}
 use Rattle.method.specs.declared.Plan.{Plan}
-use Rattle.method.specs.declared.Decision.{Decision}
-use Rattle.method.specs.declared.Decision.TheVariants.{No, Go}
+use Rattle.method.specs.Decision.{Decision}
 use Rattle.method.specs.Plan.{to_replicas, active_party, planned, used_up, asked}
 use Rattle.method.specs.Holding.{first_entry}
 use Rattle.method.specs.About.{client_in, client_of}
@@ -57,8 +53,8 @@ use Rattle.promise.proofs.theorems.Tied.{Tied}
 -- ---- an event
 
 -- the view and the names after the event
-abbrev Some : Rack → Event → Plan → View → (ℕ → ℕ → ℕ) → Type 0
-Some r e p v name = (w : View) × ((name' : ℕ → ℕ → ℕ) × Next r e p v name w name')
+abbrev Onward : Rack → Event → Plan → View → (ℕ → ℕ → ℕ) → Type 0
+Onward r e p v name = (w : View) × ((name' : ℕ → ℕ → ℕ) × Next r e p v name w name')
 
 module _ (r : Rack) (e : Event) (p : Plan) (k : Tied r) (z : Sized r.settings) (c : Decided r e p) (room : r.count + entries_in p.note ≤ entry_limit) where
   -- the view, and its names
@@ -70,20 +66,20 @@ module _ (r : Rack) (e : Event) (p : Plan) (k : Tied r) (z : Sized r.settings) (
   name = k.name
 
   -- what is so of another plan that is the same is so of p
-  as_planned : (q : Plan) → p ≡ q → Some r e q v name → Some r e p v name
-  as_planned q s n = subst (λ (x : Plan). Some r e x v name) (sym s) n
+  as_planned : (q : Plan) → p ≡ q → Onward r e q v name → Onward r e p v name
+  as_planned q s n = subst (λ (x : Plan). Onward r e x v name) (sym s) n
 
-  start_next : (who : Client) (cell : Cell) (goal : Goal) → who.0 ≡ looked_client r e → Starts (sight r e) who cell goal p → Some r e p v name
+  start_next : (who : Client) (cell : Cell) (goal : Goal) → who.0 ≡ looked_client r e → Starts (sight r e) who cell goal p → Onward r e p v name
   start_next who cell goal own q =
       let place : r.count < entry_limit = omega (arith, room, asked_added p.note _ (ap (λ (x : Plan). x.note) q.plan)) in
       let same : who ≡ record { 0 = looked_client r e } = λ i. record { 0 = own i } in
       as_planned (start_plan r e cell goal v name k.tie c.looked z place q.before)
       (q.plan
-      ∙ ap (λ (w : Client). planned (sight r e) (active_party ((looked_party r e).op + 1) (Open (asked cell goal))) false (Asked (first_entry goal w cell))
+      ∙ ap (λ (w : Client). planned (sight r e) (active_party ((looked_party r e).op + 1) (Some (asked cell goal))) false (Asked (first_entry goal w cell))
       (to_replicas w cell ((looked_party r e).op + 1) Ask) (every_replica r.settings.replicas)) same)
       (_, (_, starts_next r e cell goal v name k.tie c.looked z place q.before))
 
-  deliver_next : (m : Message) → looked_held r e ≡ Full m → m.client.0 ≡ looked_client r e → Delivers (sight r e) m p → Some r e p v name
+  deliver_next : (m : Message) → looked_held r e ≡ Some m → m.client.0 ≡ looked_client r e → Delivers (sight r e) m p → Onward r e p v name
   deliver_next m here own (tells q) = as_planned _ q.plan (_, (_, tells_next r e v name k.tie c.looked m here own q.body))
   deliver_next m here own (takes q) =
       as_planned _ q.plan (_, (_, takes_next r e m q.given v name k.tie c.looked z (record { here = here; client = own; body = q.body })))
@@ -105,31 +101,31 @@ module _ (r : Rack) (e : Event) (p : Plan) (k : Tied r) (z : Sized r.settings) (
 
 -- a plan that changes nothing of what the view sees, and sends nothing
 still_next : (r : Rack) (e : Event) (p : Plan) (k : Tied r) → Looked r e → p.party.op ≡ op_of r (looked_client r e) → p.party.work ≡ (looked_party r e).work
-    → p.note ≡ Nothing → p.pair ≡ looked_pair r e → p.to ≡ 0 → Some r e p k.view k.name
+    → p.note ≡ Nothing → p.pair ≡ looked_pair r e → p.to ≡ 0 → Onward r e p k.view k.name
 still_next r e p k l op work note pair to = (_, (_, rests_next r e k.view k.name k.tie l p op work note pair to))
 
 event_next : (r : Rack) (e : Event) (p : Plan) (k : Tied r) → Sized r.settings → Decided r e p → r.count + entries_in p.note ≤ entry_limit
-    → Some r e p k.view k.name
+    → Onward r e p k.view k.name
 unfolding client_of client_in
 event_next r (StartRead client cell) p k z c room = start_next r (StartRead client cell) p k z c room client cell Read refl c.does
 event_next r (StartWrite client cell v) p k z c room = start_next r (StartWrite client cell v) p k z c room client cell (Write v) refl c.does
 event_next r (Deliver slot) p k z c room = go (looked_held r (Deliver slot)) refl c.does
   where
-    go : (held : InSlot) → looked_held r (Deliver slot) ≡ held → OfSlot (λ m. Delivers (sight r (Deliver slot)) m p) held → Some r (Deliver slot) p k.view k.name
-    go Empty q x = absurd x
-    go (Full m) q x = deliver_next r (Deliver slot) p k z c room m q (ap client_in (sym q)) x
+    go : (held : Option Message) → looked_held r (Deliver slot) ≡ held → OfSlot (λ m. Delivers (sight r (Deliver slot)) m p) held → Onward r (Deliver slot) p k.view k.name
+    go None q x = absurd x
+    go (Some m) q x = deliver_next r (Deliver slot) p k z c room m q (ap client_in (sym q)) x
 event_next r (Lose slot) p k z c room = go (looked_held r (Lose slot)) refl c.does
   where
-    go : (held : InSlot) → looked_held r (Lose slot) ≡ held → OfSlot (λ m. p ≡ used_up (sight r (Lose slot)) m) held → Some r (Lose slot) p k.view k.name
-    go Empty q x = absurd x
-    go (Full m) q x =
+    go : (held : Option Message) → looked_held r (Lose slot) ≡ held → OfSlot (λ m. p ≡ used_up (sight r (Lose slot)) m) held → Onward r (Lose slot) p k.view k.name
+    go None q x = absurd x
+    go (Some m) q x =
         still_next r (Lose slot) p k c.looked (ap (λ (a : Plan). a.party.op) x) (ap (λ (a : Plan). a.party.work) x) (ap (λ (a : Plan). a.note) x)
         (ap (λ (a : Plan). a.pair) x) (ap (λ (a : Plan). a.to) x)
 event_next r (Copy slot) p k z c room = go (looked_held r (Copy slot)) refl c.does
   where
-    go : (held : InSlot) → looked_held r (Copy slot) ≡ held → OfSlot (λ m. Copies (sight r (Copy slot)) m p) held → Some r (Copy slot) p k.view k.name
-    go Empty q x = absurd x
-    go (Full m) q x = (_, (_, copies_next r (Copy slot) k.view k.name k.tie c.looked m q (ap client_in (sym q)) p x))
+    go : (held : Option Message) → looked_held r (Copy slot) ≡ held → OfSlot (λ m. Copies (sight r (Copy slot)) m p) held → Onward r (Copy slot) p k.view k.name
+    go None q x = absurd x
+    go (Some m) q x = (_, (_, copies_next r (Copy slot) k.view k.name k.tie c.looked m q (ap client_in (sym q)) p x))
 event_next r (Resend client) p k z c room = (_, (_, resends_next r (Resend client) k.view k.name k.tie c.looked client refl p c.does))
 event_next r (Stop client) p k z c room =
     let x = c.does.plan in
@@ -150,10 +146,10 @@ has_room : (r : Rack) (e : Event) (p : Plan) → Sound (applied_of r e p) → r.
 unfolding applied_of
 has_room r e p s = omega (arith, s.entries)
 
-pub event_tied : (r : Rack) (e : Event) (p : Plan) → sound_of r ≡ true → decided r e ≡ Go p → Tied r → Tied (applied_of r e p)
+pub event_tied : (r : Rack) (e : Event) (p : Plan) → sound_of r ≡ true → decided r e ≡ Ok p → Tied r → Tied (applied_of r e p)
 event_tied r e p h d k = next (event_next r e p k (sound_of_lem r h).settings (decided_fits r e p h d) (has_room r e p (stays r e p h d)))
   where
-    next : Some r e p k.view k.name → Tied (applied_of r e p)
+    next : Onward r e p k.view k.name → Tied (applied_of r e p)
     next (w, (name, n)) =
         record {
           view = w;
@@ -174,8 +170,8 @@ from_tied done r (suc left) (x ∷ a ∷ b ∷ y ∷ ws) k = go (decided r (even
   where
     go : (o : Decision) → decided r (event_of x a b y) ≡ o → ((q : Rack) → Tied q → Tied (run_from (done + 1) q left ws).rack)
         → Tied (turn done r (event_of x a b y) o (λ q. run_from (done + 1) q left ws)).rack
-    go (No n) e ih = k
-    go (Go p) e ih = ih (applied_of r (event_of x a b y) p) (event_tied r (event_of x a b y) p (decided_sound r (event_of x a b y) p e) e k)
+    go (Err n) e ih = k
+    go (Ok p) e ih = ih (applied_of r (event_of x a b y) p) (event_tied r (event_of x a b y) p (decided_sound r (event_of x a b y) p e) e k)
 
 pub run_tied : (r : Rack) (allowance : ℕ) (ws : List ℕ) → Tied r → Tied (run_of r allowance ws).rack
 unfolding run_of

@@ -1,11 +1,9 @@
 -- What an event finds: the message in its slot means something true, names what is there, and the pair that it looks at is the view's.
-use Rattle.std.specs.Prelude.{ℕ, ◌≤◌, ◌<◌, ◌≡◌, true, get_or, set}
+use Rattle.std.specs.Prelude.{ℕ, ◌≤◌, ◌<◌, ◌≡◌, true, get_or, set, Some, Option}
 use Rattle.std.proofs.Common.{sym, ap, ◌∙◌, subst}
 use Rattle.std.proofs.lemmas.List.{set-get_or}
 use Rattle.method.specs.declared.Body.{Body}
 use Rattle.method.specs.declared.Message.{Message}
-use Rattle.method.specs.declared.InSlot.{InSlot}
-use Rattle.method.specs.declared.InSlot.TheVariants.{Full}
 use Rattle.rack.specs.declared.Settings.{Settings}
 use Rattle.rack.specs.declared.Rack.{Rack}
 use Rattle.stamps.specs.Stamp.{fresh_pair}
@@ -22,17 +20,17 @@ use Rattle.promise.specs.Setting.{setting_of}
 use Rattle.promise.specs.Tie.{pair_of, Means, OnWire, Holding, op_of}
 use Rattle.promise.proofs.theorems.Tied.{Tie}
 
-place_of : (h : InSlot) (m : Message) → h ≡ Full m → place_in h ≡ pair_place m.replica.0 m.cell.0
+place_of : (h : Option Message) (m : Message) → h ≡ Some m → place_in h ≡ pair_place m.replica.0 m.cell.0
 unfolding place_in
 place_of h m e = rw e
 
-fits_of : (z : Settings) (h : InSlot) (m : Message) → h ≡ Full m → held_fits z h ≡ true → Named z m
+fits_of : (z : Settings) (h : Option Message) (m : Message) → h ≡ Some m → held_fits z h ≡ true → Named z m
 unfolding held_fits
 fits_of z h m e f = named z m (rw e at f)
 
 -- the slot held message m with body b, and it is client c's
-pub record Got (c : ℕ) (held : InSlot) (m : Message) (b : Body) : Type 0 where
-  pub here : held ≡ Full m
+pub record Got (c : ℕ) (held : Option Message) (m : Message) (b : Body) : Type 0 where
+  pub here : held ≡ Some m
   pub client : m.client.0 ≡ c
   pub body : m.body ≡ b
 

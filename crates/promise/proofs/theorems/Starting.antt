@@ -1,5 +1,5 @@
 -- A client starts an operation: it gets the number of its start entry.
-use Rattle.std.specs.Prelude.{ℕ, zero, suc, ◌+◌, ◌≤◌, ◌<◌, ◌≡◌, refl, ◌≢◌, false, length}
+use Rattle.std.specs.Prelude.{ℕ, zero, suc, ◌+◌, ◌≤◌, ◌<◌, ◌≡◌, refl, ◌≢◌, false, length, None, Some}
 use Rattle.std.proofs.Common.{sym, ap, ◌∙◌, subst, arith}
 use Rattle.record.specs.declared.Client.{Client}
 use Rattle.record.specs.declared.Cell.{Cell}
@@ -15,7 +15,6 @@ use Rattle.rack.specs.declared.Rack.{Rack}
 use Rattle.rack.specs.Sound.{quorums_of}
 use Rattle.method.specs.declared.Event.{Event}
 use Rattle.method.specs.declared.Goal.{Goal}
-use Rattle.method.specs.declared.Work.TheVariants.{Idle, Open}
 use Rattle.method.specs.declared.Note.TheVariants.{Asked}
 use Rattle.method.specs.declared.Plan.{Plan}
 use Rattle.rack.specs.Places.{party_at, record_of}
@@ -39,7 +38,7 @@ use Rattle.promise.proofs.theorems.Slot.{pairs_same}
 use Rattle.promise.specs.laws.Moves.{Moved, moved}
 
 module _ (r : Rack) (e : Event) (cell : Cell) (goal : Goal) (v : View) (name : ℕ → ℕ → ℕ) (t : Tie r v name) (l : Looked r e) (z : Sized r.settings)
-    (room : r.count < entry_limit) (before : (party_at r (looked_client r e)).work ≡ Idle) where
+    (room : r.count < entry_limit) (before : (party_at r (looked_client r e)).work ≡ None) where
   -- the setting of this rack: its sets of replicas, its majorities and its stamps
   abbrev S : Setting
   S = setting_of (quorums_of r.settings)
@@ -70,7 +69,7 @@ module _ (r : Rack) (e : Event) (cell : Cell) (goal : Goal) (v : View) (name : �
 
   -- the plan of the start
   abbrev pub start_plan : Plan
-  start_plan = planned (sight r e) (active_party k (Open (asked cell goal))) false (Asked entry) (to_replicas named_client cell k Ask) (every_replica r.settings.replicas)
+  start_plan = planned (sight r e) (active_party k (Some (asked cell goal))) false (Asked entry) (to_replicas named_client cell k Ask) (every_replica r.settings.replicas)
 
   -- the view after the start: the record has one entry more
   abbrev pub started_view : View
@@ -118,9 +117,9 @@ module _ (r : Rack) (e : Event) (cell : Cell) (goal : Goal) (v : View) (name : �
 
   -- ---- the clients
 
-  this : At started_view.ops client (started_name client k) (Open (asked cell goal))
+  this : At started_view.ops client (started_name client k) (Some (asked cell goal))
   this =
-      subst (λ (i : ℕ). At started_view.ops client i (Open (asked cell goal))) (sym (named_here name client k o))
+      subst (λ (i : ℕ). At started_view.ops client i (Some (asked cell goal))) (sym (named_here name client k o))
       (stands_on v.ops started_view.ops o starting.other client new starting.here (λ i d. free i))
 
   others : (c : ℕ) → c < r.settings.clients → c ≢ client → At started_view.ops c (started_name c (op_of r c)) (party_at r c).work

@@ -1,9 +1,7 @@
 -- The clients while one operation changes: what each is at stays so, and the operation's own client goes on.
-use Rattle.std.specs.Prelude.{ℕ, ◌≤◌, ◌≡◌, refl, ◌≢◌}
+use Rattle.std.specs.Prelude.{ℕ, ◌≤◌, ◌≡◌, refl, ◌≢◌, None, Some, Option}
 use Rattle.std.proofs.Common.{sym, ap, ◌∙◌, arith}
 use Rattle.std.proofs.Math.Decide.{ℕ_discrete}
-use Rattle.method.specs.declared.Work.{Work}
-use Rattle.method.specs.declared.Work.TheVariants.{Idle, Open}
 use Rattle.method.specs.declared.Phase.{Phase}
 use Rattle.method.specs.declared.Phase.TheVariants.{Asking, Keeping}
 use Rattle.method.specs.declared.Operation.{Operation}
@@ -39,9 +37,9 @@ module _ (f g : ℕ → Op) (o : ℕ) (other : (i : ℕ) → i ≢ o → g i ≡
             let begun : 1 ≤ (f o).phase = rw here p in
             differ (sym e ∙ (ap (λ (y : Op). y.call.client) (sym here) ∙ old begun))
 
-    pub at_other : (u : ℕ) (w : Work) → At f d u w → At g d u w
-    at_other u Idle h = λ i. past_other i (ℕ_discrete i o) (h i)
-    at_other u (Open x) h = stands_other u (open_at u d x) (open_client x.phase u d x) (open_begun x.phase u d x) h
+    pub at_other : (u : ℕ) (w : Option Operation) → At f d u w → At g d u w
+    at_other u None h = λ i. past_other i (ℕ_discrete i o) (h i)
+    at_other u (Some x) h = stands_other u (open_at u d x) (open_client x.phase u d x) (open_begun x.phase u d x) h
 
   -- the client whose operation it is
   pub stands_on : (c : ℕ) (x : Op) → g o ≡ x → ((i : ℕ) → i ≢ o → Past f c i) → Stands g c o x

@@ -9,12 +9,12 @@ returns-then-set-eq0 c = rest_none _ c.if-set-eq0.true
 
 pub overflow_shl-result : goal.overflow_shl-result
 unfolding set_bits
-overflow_shl-result c = lowest_low c.args.set _ (search rules) c.if-set-eq0.false (λ i. (c.lowest-k.ensures i).0)
+overflow_shl-result c = lowest_low c.args.set _ (search rules) c.if-set-eq0.false (λ i. (c.lowest.ensures i).0)
 
 pub overflow_sub-result : goal.overflow_sub-result
 unfolding set_bits
-overflow_sub-result c = rest_room c.args.set _ (search rules) c.if-set-eq0.false (λ i. (c.lowest-k.ensures i).0)
+overflow_sub-result c = rest_room c.args.set _ (search rules) c.if-set-eq0.false (λ i. (c.lowest.ensures i).0)
 
 pub returns : goal.returns
 unfolding set_bits
-returns c = rest_is c.args.set _ (search rules) c.if-set-eq0.false (λ i. (c.lowest-k.ensures i).0)
+returns c = rest_is c.args.set _ (search rules) c.if-set-eq0.false (λ i. (c.lowest.ensures i).0)

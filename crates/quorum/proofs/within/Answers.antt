@@ -8,6 +8,6 @@ pub returns-then-n-ge-SET_BITS : goal.returns-then-n-ge-SET_BITS
 unfolding set_bits
 returns-then-n-ge-SET_BITS c = within_more c.args.n c.args.set (search rules) c.if-n-ge-SET_BITS.true
 
-pub returns : goal.returns
+pub returns-else-n-ge-SET_BITS : goal.returns-else-n-ge-SET_BITS
 unfolding set_bits
-returns c = within_fewer c.args.n c.args.set c.if-n-ge-SET_BITS.false
+returns-else-n-ge-SET_BITS c = within_fewer c.args.n c.args.set c.if-n-ge-SET_BITS.false

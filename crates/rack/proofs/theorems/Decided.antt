@@ -1,15 +1,13 @@
 -- What an event of a sound rack looks at is there, and what is decided on it stays in the rack.
-use Rattle.std.specs.Prelude.{◌+◌, ◌≤◌, ◌<◌, ◌≡◌, refl, Bool, true, false, not, ◌&&◌, ltb, get_or}
+use Rattle.std.specs.Prelude.{◌+◌, ◌≤◌, ◌<◌, ◌≡◌, refl, Bool, true, false, not, ◌&&◌, ltb, get_or, None, Some, Ok, Option}
 use Rattle.std.proofs.Common.{ap, sym, subst, arith, ltb-true, ltb-false}
 use Rattle.std.specs.Int.Count.{ones}
+use Rattle.method.specs.declared.Message.{Message}
 use Rattle.record.specs.Record.{entry_limit}
 use Rattle.stamps.specs.Stamp.{fresh_pair}
-use Rattle.method.specs.declared.InSlot.{InSlot}
-use Rattle.method.specs.declared.InSlot.TheVariants.{Empty, Full}
 use Rattle.method.specs.declared.Event.{Event}
 use Rattle.method.specs.declared.Event.TheVariants.{StartRead, StartWrite, Deliver, Lose, Copy, Resend, Stop, Off, On, Unknown}
 use Rattle.method.specs.declared.Plan.{Plan}
-use Rattle.method.specs.declared.Decision.TheVariants.{Go}
 use Rattle.method.specs.About.{client_in, client_of}
 use Rattle.method.specs.Method.{Delivers, Does}
 use Rattle.method.specs.Method.Delivers.{tells, takes, hears, chooses, counts, ends, spends}
@@ -40,12 +38,12 @@ slot_in_lem z (Off replica) h = omega arith
 slot_in_lem z (On replica) h = omega arith
 slot_in_lem z Unknown h = omega arith
 
-client_in_lem : (z : Settings) → Sized z → (held : InSlot) → held_fits z held ≡ true → client_in held < z.clients
+client_in_lem : (z : Settings) → Sized z → (held : Option Message) → held_fits z held ≡ true → client_in held < z.clients
 unfolding client_in held_fits
-client_in_lem z n Empty h = n.some_client
-client_in_lem z n (Full m) h = (named z m h).client
+client_in_lem z n None h = n.some_client
+client_in_lem z n (Some m) h = (named z m h).client
 
-client_of_lem : (z : Settings) → Sized z → (held : InSlot) → held_fits z held ≡ true → (e : Event) → in_rack z e ≡ true → client_of e held < z.clients
+client_of_lem : (z : Settings) → Sized z → (held : Option Message) → held_fits z held ≡ true → (e : Event) → in_rack z e ≡ true → client_of e held < z.clients
 unfolding in_rack client_of
 client_of_lem z n held h (StartRead client cell) i = ltb-true client.0 z.clients (and_left (ltb client.0 z.clients) (ltb cell.0 z.cells) i)
 client_of_lem z n held h (StartWrite client cell v) i = ltb-true client.0 z.clients (and_left (ltb client.0 z.clients) (ltb cell.0 z.cells) i)
@@ -58,15 +56,15 @@ client_of_lem z n held h (Off replica) i = n.some_client
 client_of_lem z n held h (On replica) i = n.some_client
 client_of_lem z n held h Unknown i = n.some_client
 
-place_in_lem : (z : Settings) → Sized z → (held : InSlot) → held_fits z held ≡ true → place_in held < pair_limit
+place_in_lem : (z : Settings) → Sized z → (held : Option Message) → held_fits z held ≡ true → place_in held < pair_limit
 unfolding place_in held_fits
-place_in_lem z n Empty h = omega arith
-place_in_lem z n (Full m) h = let q = named z m h in omega (arith, q.replica, q.cell, n.replicas, n.cells)
+place_in_lem z n None h = omega arith
+place_in_lem z n (Some m) h = let q = named z m h in omega (arith, q.replica, q.cell, n.replicas, n.cells)
 
-pair_in_lem : (r : Rack) → Sound r → (held : InSlot) → held_fits r.settings held ≡ true → pair_fits r.settings (get_or r.pairs (place_in held) fresh_pair) ≡ true
+pair_in_lem : (r : Rack) → Sound r → (held : Option Message) → held_fits r.settings held ≡ true → pair_fits r.settings (get_or r.pairs (place_in held) fresh_pair) ≡ true
 unfolding place_in held_fits
-pair_in_lem r s Empty h = s.pairs 0 0 s.settings.some_replica s.settings.some_cell
-pair_in_lem r s (Full m) h = let q = named r.settings m h in s.pairs m.replica.0 m.cell.0 q.replica q.cell
+pair_in_lem r s None h = s.pairs 0 0 s.settings.some_replica s.settings.some_cell
+pair_in_lem r s (Some m) h = let q = named r.settings m h in s.pairs m.replica.0 m.cell.0 q.replica q.cell
 
 pub looked : (r : Rack) → Sound r → (e : Event) → in_rack r.settings e ≡ true → Looked r e
 looked r s e i =
@@ -90,24 +88,24 @@ not_false true q = refl
 not_false false q = never (sym q)
 
 -- 2: an event is done on a sound rack only
-pub decided_sound : (r : Rack) (e : Event) (p : Plan) → decided r e ≡ Go p → sound_of r ≡ true
+pub decided_sound : (r : Rack) (e : Event) (p : Plan) → decided r e ≡ Ok p → sound_of r ≡ true
 unfolding applies
 decided_sound r e p d = not_false (sound_of r) (decided_none r e p d 2)
 
 -- 3: its numbers are in the rack
-pub decided_inside : (r : Rack) (e : Event) (p : Plan) → decided r e ≡ Go p → in_rack r.settings e ≡ true
+pub decided_inside : (r : Rack) (e : Event) (p : Plan) → decided r e ≡ Ok p → in_rack r.settings e ≡ true
 unfolding applies
 decided_inside r e p d = not_false (in_rack r.settings e) (decided_none r e p d 3)
 
 -- its plan is the one that its sight gives, and is of the method
-pub decided_plan : (r : Rack) (e : Event) (p : Plan) → decided r e ≡ Go p → decision_of (sight r e) (looked_held r e) e ≡ Go p
+pub decided_plan : (r : Rack) (e : Event) (p : Plan) → decided r e ≡ Ok p → decision_of (sight r e) (looked_held r e) e ≡ Ok p
 unfolding applies decision_of
 decided_plan r e p d =
     let n = decided_none r e p d in
     let i = known r.settings e (decided_inside r e p d) in
-    rw (i, n 4, n 5, n 6, n 7, n 8, n 9, n 10, n 12) (ap Go (decided_go r e p d).1)
+    rw (i, n 4, n 5, n 6, n 7, n 8, n 9, n 10, n 12) (ap Ok (decided_go r e p d).1)
 
-pub decided_does : (r : Rack) (e : Event) (p : Plan) → decided r e ≡ Go p → Does (sight r e) (looked_held r e) e p
+pub decided_does : (r : Rack) (e : Event) (p : Plan) → decided r e ≡ Ok p → Does (sight r e) (looked_held r e) e p
 decided_does r e p d = method (sight r e) (looked_held r e) e p (decided_plan r e p d)
 
 -- 11: the record has room for the entry of a start, and its answer
@@ -128,15 +126,15 @@ note_room r e p x f h = go (looked_held r e) e x f
     delivered m (ends y) = subst Room (sym y.plan) (omega arith)
     delivered m (spends y) = subst Room (sym y.plan) (omega arith)
 
-    go : (held : InSlot) (ev : Event) → Does (sight r e) held ev p → (is_start ev && ltb entry_limit (r.count + owed r + 2)) ≡ false → Room p
+    go : (held : Option Message) (ev : Event) → Does (sight r e) held ev p → (is_start ev && ltb entry_limit (r.count + owed r + 2)) ≡ false → Room p
     go held (StartRead client cell) y q = subst Room (sym y.plan) (ltb-false entry_limit (r.count + owed r + 2) q)
     go held (StartWrite client cell v) y q = subst Room (sym y.plan) (ltb-false entry_limit (r.count + owed r + 2) q)
-    go Empty (Deliver slot) y q = absurd y
-    go (Full m) (Deliver slot) y q = delivered m y
-    go Empty (Lose slot) y q = absurd y
-    go (Full m) (Lose slot) y q = subst Room (sym y) (omega arith)
-    go Empty (Copy slot) y q = absurd y
-    go (Full m) (Copy slot) y q = subst Room (sym y) (omega arith)
+    go None (Deliver slot) y q = absurd y
+    go (Some m) (Deliver slot) y q = delivered m y
+    go None (Lose slot) y q = absurd y
+    go (Some m) (Lose slot) y q = subst Room (sym y) (omega arith)
+    go None (Copy slot) y q = absurd y
+    go (Some m) (Copy slot) y q = subst Room (sym y) (omega arith)
     go held (Resend client) y q = subst Room (sym y.plan) (omega arith)
     go held (Stop client) y q = subst Room (sym y.plan) (omega arith)
     go held (Off replica) y q = subst Room (sym y.plan) (omega arith)
@@ -144,14 +142,14 @@ note_room r e p x f h = go (looked_held r e) e x f
     go held Unknown y q = absurd y
 
 -- 13: the wire has room for what is sent
-sent_room : (r : Rack) (e : Event) (p : Plan) → decided r e ≡ Go p → ones p.to ≤ room_of r.wire + freed p.clear
+sent_room : (r : Rack) (e : Event) (p : Plan) → decided r e ≡ Ok p → ones p.to ≤ room_of r.wire + freed p.clear
 unfolding applies wire_full
 sent_room r e p d =
     let f : ltb (room_of r.wire + freed (plan_for r e).clear) (ones (plan_for r e).to) ≡ false = decided_none r e p d 13 in
     subst (λ (q : Plan). ones q.to ≤ room_of r.wire + freed q.clear) (decided_go r e p d).1
     (ltb-false (room_of r.wire + freed (plan_for r e).clear) (ones (plan_for r e).to) f)
 
-pub decided_fits : (r : Rack) (e : Event) (p : Plan) → sound_of r ≡ true → decided r e ≡ Go p → Decided r e p
+pub decided_fits : (r : Rack) (e : Event) (p : Plan) → sound_of r ≡ true → decided r e ≡ Ok p → Decided r e p
 unfolding applies
 decided_fits r e p h d =
     let s = sound_of_lem r h in

@@ -1,21 +1,19 @@
 -- The table of refusals: a number is given exactly when it applies and no smaller one does, and an event is done exactly when none applies. And the order
 -- in which the code tests gives the same.
 use Prim.Native.Nat.{ℕ, zero, suc, ◌+◌, ◌-◌, ◌≤◌, ◌<◌}
-use Rattle.std.specs.Prelude.{◌≡◌, ◌≢◌, ◌↔◌, Bool, not, ◌&&◌, List, ◌∷◌, eqb}
+use Rattle.std.specs.Prelude.{◌≡◌, ◌≢◌, ◌↔◌, Bool, not, ◌&&◌, List, ◌∷◌, eqb, None, Some, Err, Ok, Option}
 use Rattle.std.proofs.Math.Path.{refl, ap}
 use Rattle.std.proofs.Common.{sym, ◌∙◌, arith, ne_eqb, eqb-true, ltb-true, ltb-false}
 use Rattle.std.proofs.Math.Bool.{true, false, cond}
 use Rattle.std.proofs.Math.Dec.{ltb}
 use Rattle.std.proofs.lemmas.Bool.{eqb-false}
+use Rattle.method.specs.declared.Message.{Message}
 use Rattle.record.specs.Record.{entry_limit}
-use Rattle.method.specs.declared.InSlot.{InSlot}
-use Rattle.method.specs.declared.InSlot.TheVariants.{Empty, Full}
 use Rattle.method.specs.declared.Sight.{Sight}
 use Rattle.method.specs.declared.Event.{Event}
 use Rattle.method.specs.declared.Event.TheVariants.{StartRead, StartWrite, Deliver, Lose, Copy, Resend, Stop, Off, On, Unknown}
 use Rattle.method.specs.declared.Plan.{Plan}
-use Rattle.method.specs.declared.Decision.{Decision}
-use Rattle.method.specs.declared.Decision.TheVariants.{No, Go}
+use Rattle.method.specs.Decision.{Decision, refused}
 use Rattle.method.specs.Refusals.{is_unknown, is_start, is_delivery, slot_empty, client_stopped, already_open, none_open, replica_off, switched_so, op_spent, spent_slot, number_spent}
 use Rattle.method.specs.Refusals.{decision_of}
 use Rattle.method.specs.Method.{Delivers, Does}
@@ -134,33 +132,33 @@ done_exactly r e = (λ q k. go q k (ltb k (last_refusal + 1)) refl, λ b. least_
 
 -- ---- what is decided
 
-pub decided_go : (r : Rack) (e : Event) (p : Plan) → decided r e ≡ Go p → (refusal_of r e ≡ 0) × (plan_for r e ≡ p)
+pub decided_go : (r : Rack) (e : Event) (p : Plan) → decided r e ≡ Ok p → (refusal_of r e ≡ 0) × (plan_for r e ≡ p)
 unfolding decided
 decided_go r e p d = go (eqb (refusal_of r e) 0) refl d
   where
-    go : (t : Bool) → eqb (refusal_of r e) 0 ≡ t → cond t (Go (plan_for r e)) (No (refusal_of r e)) ≡ Go p → (refusal_of r e ≡ 0) × (plan_for r e ≡ p)
+    go : (t : Bool) → eqb (refusal_of r e) 0 ≡ t → cond t (Ok (plan_for r e)) (Err (refusal_of r e)) ≡ Ok p → (refusal_of r e ≡ 0) × (plan_for r e ≡ p)
     go true q w = (eqb-true (refusal_of r e) 0 q, cc)
     go false q w = absurd (let z : ◌≡◌ {A = ℕ} 0 1 = cc in omega arith)
 
-pub decided_no : (r : Rack) (e : Event) (k : ℕ) → decided r e ≡ No k → (refusal_of r e ≡ k) × (k ≢ 0)
+pub decided_no : (r : Rack) (e : Event) (k : ℕ) → decided r e ≡ Err k → (refusal_of r e ≡ k) × (k ≢ 0)
 unfolding decided
 decided_no r e k d = go (eqb (refusal_of r e) 0) refl d
   where
-    go : (t : Bool) → eqb (refusal_of r e) 0 ≡ t → cond t (Go (plan_for r e)) (No (refusal_of r e)) ≡ No k → (refusal_of r e ≡ k) × (k ≢ 0)
+    go : (t : Bool) → eqb (refusal_of r e) 0 ≡ t → cond t (Ok (plan_for r e)) (Err (refusal_of r e)) ≡ Err k → (refusal_of r e ≡ k) × (k ≢ 0)
     go true q w = absurd (let z : ◌≡◌ {A = ℕ} 0 1 = cc in omega arith)
     go false q w = let i : refusal_of r e ≡ k = cc in (i, λ z. eqb-false (refusal_of r e) 0 q (i ∙ z))
 
 -- an event that is done is refused by no number of the table
-pub decided_none : (r : Rack) (e : Event) (p : Plan) → decided r e ≡ Go p → (k : ℕ) → applies k r e ≡ false
+pub decided_none : (r : Rack) (e : Event) (p : Plan) → decided r e ≡ Ok p → (k : ℕ) → applies k r e ≡ false
 decided_none r e p d = (done_exactly r e).0 (decided_go r e p d).0
 
 -- on a rack that isn't sound every event is refused 2
-pub decided_unsound : (r : Rack) (e : Event) → sound_of r ≡ false → decided r e ≡ No 2
+pub decided_unsound : (r : Rack) (e : Event) → sound_of r ≡ false → decided r e ≡ refused 2
 unfolding decided refusal_of least_from applies
 decided_unsound r e h = rw h
 
 -- and on one that is sound none is
-pub decided_fit : (r : Rack) (e : Event) (k : ℕ) → sound_of r ≡ true → decided r e ≡ No k → k ≢ 2
+pub decided_fit : (r : Rack) (e : Event) (k : ℕ) → sound_of r ≡ true → decided r e ≡ Err k → k ≢ 2
 unfolding applies
 decided_fit r e k h d q =
     let n = decided_no r e k d in
@@ -169,12 +167,12 @@ decided_fit r e k h d q =
     never (sym (ap not h) ∙ u)
 
 -- a number that is given is one of 2 to 13
-pub decided_refuses : (r : Rack) (e : Event) (k : ℕ) → decided r e ≡ No k → (first_refusal ≤ k) × (k ≤ last_refusal)
+pub decided_refuses : (r : Rack) (e : Event) (k : ℕ) → decided r e ≡ Err k → (first_refusal ≤ k) × (k ≤ last_refusal)
 unfolding refusal_of
 decided_refuses r e k d = let q = decided_no r e k d in let l = least_of_lem (last_refusal + 1 - first_refusal) first_refusal (λ j. applies j r e) k q.0 q.1 in (l.from, omega (arith, l.below))
 
 -- a refusal leaves rack, wire and record as they were, and stops the schedule
-pub refused_leaves : (done : ℕ) (r : Rack) (e : Event) (k : ℕ) (next : Rack → Ran) → decided r e ≡ No k → turn done r e (decided r e) next ≡ ran_of done k r
+pub refused_leaves : (done : ℕ) (r : Rack) (e : Event) (k : ℕ) (next : Rack → Ran) → decided r e ≡ Err k → turn done r e (decided r e) next ≡ ran_of done k r
 unfolding turn
 refused_leaves done r e k next d = rw d
 
@@ -193,13 +191,13 @@ done_goes_on done r left x a b v ws q = rw q
 -- ---- the order in which the code tests
 
 -- 11 is tested of plans that begin an operation, and those are the plans of starts
-noted_starts : (s : Sight) (held : InSlot) (e : Event) (p : Plan) → Does s held e p → (taken : ℕ) (d : Decision)
-    → noted p.note taken d ≡ cond (is_start e && ltb entry_limit (taken + 2)) (No 11) d
+noted_starts : (s : Sight) (held : Option Message) (e : Event) (p : Plan) → Does s held e p → (taken : ℕ) (d : Decision)
+    → noted p.note taken d ≡ cond (is_start e && ltb entry_limit (taken + 2)) (refused 11) d
 unfolding noted is_start
 noted_starts s held (StartRead client cell) p x taken d = rw x.plan
 noted_starts s held (StartWrite client cell v) p x taken d = rw x.plan
-noted_starts s Empty (Deliver slot) p x taken d = absurd x
-noted_starts s (Full m) (Deliver slot) p x taken d = delivered x
+noted_starts s None (Deliver slot) p x taken d = absurd x
+noted_starts s (Some m) (Deliver slot) p x taken d = delivered x
   where
     delivered : Delivers s m p → noted p.note taken d ≡ d
     delivered (tells y) = rw y.plan
@@ -209,10 +207,10 @@ noted_starts s (Full m) (Deliver slot) p x taken d = delivered x
     delivered (counts y) = rw y.plan
     delivered (ends y) = rw y.plan
     delivered (spends y) = rw y.plan
-noted_starts s Empty (Lose slot) p x taken d = absurd x
-noted_starts s (Full m) (Lose slot) p x taken d = rw x
-noted_starts s Empty (Copy slot) p x taken d = absurd x
-noted_starts s (Full m) (Copy slot) p x taken d = rw x
+noted_starts s None (Lose slot) p x taken d = absurd x
+noted_starts s (Some m) (Lose slot) p x taken d = rw x
+noted_starts s None (Copy slot) p x taken d = absurd x
+noted_starts s (Some m) (Copy slot) p x taken d = rw x
 noted_starts s held (Resend client) p x taken d = rw x.plan
 noted_starts s held (Stop client) p x taken d = rw x.plan
 noted_starts s held (Off replica) p x taken d = rw x.plan
@@ -248,19 +246,19 @@ known z Unknown q = never q
 
 -- a decision by a number: 0 is the plan
 abbrev chosen_by : Plan → ℕ → Decision
-chosen_by p k = cond (eqb k 0) (Go p) (No k)
+chosen_by p k = cond (eqb k 0) (Ok p) (Err k)
 
-pick : (p : Plan) (t : Bool) (k rest : ℕ) → eqb k 0 ≡ false → chosen_by p (cond t k rest) ≡ cond t (No k) (chosen_by p rest)
+pick : (p : Plan) (t : Bool) (k rest : ℕ) → eqb k 0 ≡ false → chosen_by p (cond t k rest) ≡ cond t (Err k) (chosen_by p rest)
 pick p true k rest h = rw h refl
 pick p false k rest h = refl
 
 -- past a test that doesn't hold
-past : (t : Bool) (k : ℕ) (x y : Decision) → (t ≡ false → x ≡ y) → cond t (No k) x ≡ cond t (No k) y
+past : (t : Bool) (k : ℕ) (x y : Decision) → (t ≡ false → x ≡ y) → cond t (Err k) x ≡ cond t (Err k) y
 past true k x y f = refl
 past false k x y f = f refl
 
 -- a refusal passes 11 and 13 as it is
-push : (t : Bool) (k : ℕ) (d : Decision) (taken room : ℕ) → checked (cond t (No k) d) taken room ≡ cond t (No k) (checked d taken room)
+push : (t : Bool) (k : ℕ) (d : Decision) (taken room : ℕ) → checked (cond t (Err k) d) taken room ≡ cond t (Err k) (checked d taken room)
 unfolding checked
 push true k d taken room = refl
 push false k d taken room = refl
@@ -271,7 +269,7 @@ module _ (r : Rack) (e : Event) where
   s = sight r e
 
   -- what its slot holds
-  abbrev held : InSlot
+  abbrev held : Option Message
   held = looked_held r e
 
   -- its plan
@@ -283,54 +281,54 @@ module _ (r : Rack) (e : Event) where
   taken = r.count + owed r
 
   -- the numbers from 10 on, where those below don't apply
-  last_three : (number_spent s held e ≡ false → decision_of s held e ≡ Go p)
-      → checked (cond (number_spent s held e) (No 12) (Go p)) taken (room_of r.wire)
-      ≡ cond (record_full r e) (No 11) (cond (number_spent s held e) (No 12) (cond (wire_full r e) (No 13) (Go p)))
+  last_three : (number_spent s held e ≡ false → decision_of s held e ≡ Ok p)
+      → checked (cond (number_spent s held e) (refused 12) (Ok p)) taken (room_of r.wire)
+      ≡ cond (record_full r e) (refused 11) (cond (number_spent s held e) (refused 12) (cond (wire_full r e) (refused 13) (Ok p)))
   unfolding record_full wire_full checked number_spent
   last_three f = go (is_delivery e && spent_slot s held) refl f
     where
-      go : (t : Bool) → (is_delivery e && spent_slot s held) ≡ t → (t ≡ false → decision_of s held e ≡ Go p)
-          → checked (cond t (No 12) (Go p)) taken (room_of r.wire)
-          ≡ cond (is_start e && ltb entry_limit (r.count + owed r + 2)) (No 11) (cond t (No 12) (cond (too_many (room_of r.wire) p) (No 13) (Go p)))
+      go : (t : Bool) → (is_delivery e && spent_slot s held) ≡ t → (t ≡ false → decision_of s held e ≡ Ok p)
+          → checked (cond t (refused 12) (Ok p)) taken (room_of r.wire)
+          ≡ cond (is_start e && ltb entry_limit (r.count + owed r + 2)) (refused 11) (cond t (refused 12) (cond (too_many (room_of r.wire) p) (refused 13) (Ok p)))
       go true q g = rw (delivery_starts e (and_left (is_delivery e) (spent_slot s held) q))
-      go false q g = noted_starts s held e p (method s held e p (g refl)) taken (cond (too_many (room_of r.wire) p) (No 13) (Go p))
+      go false q g = noted_starts s held e p (method s held e p (g refl)) taken (cond (too_many (room_of r.wire) p) (refused 13) (Ok p))
 
   -- the table from 4 on, one test after another
   abbrev chain : Decision
   chain =
-      cond (slot_empty held e) (No 4)
-      (cond (client_stopped s e) (No 5)
-      (cond (already_open s e) (No 6)
-      (cond (none_open s e) (No 7)
-      (cond (replica_off s held e) (No 8)
-      (cond (switched_so s e) (No 9)
-      (cond (op_spent s e) (No 10)
-      (cond (record_full r e) (No 11) (cond (number_spent s held e) (No 12) (cond (wire_full r e) (No 13) (Go p))))))))))
+      cond (slot_empty held e) (refused 4)
+      (cond (client_stopped s e) (refused 5)
+      (cond (already_open s e) (refused 6)
+      (cond (none_open s e) (refused 7)
+      (cond (replica_off s held e) (refused 8)
+      (cond (switched_so s e) (refused 9)
+      (cond (op_spent s e) (refused 10)
+      (cond (record_full r e) (refused 11) (cond (number_spent s held e) (refused 12) (cond (wire_full r e) (refused 13) (Ok p))))))))))
 
-  by_table : sound_of r ≡ true → decided r e ≡ cond (not (in_rack r.settings e)) (No 3) chain
+  by_table : sound_of r ≡ true → decided r e ≡ cond (not (in_rack r.settings e)) (refused 3) chain
   unfolding decided refusal_of least_from applies
   by_table h =
       rw h
       (pick p (not (in_rack r.settings e)) 3 _ refl
-      ∙ ap (cond (not (in_rack r.settings e)) (No 3))
+      ∙ ap (cond (not (in_rack r.settings e)) (refused 3))
       (pick p (slot_empty held e) 4 _ refl
-      ∙ ap (cond (slot_empty held e) (No 4))
+      ∙ ap (cond (slot_empty held e) (refused 4))
       (pick p (client_stopped s e) 5 _ refl
-      ∙ ap (cond (client_stopped s e) (No 5))
+      ∙ ap (cond (client_stopped s e) (refused 5))
       (pick p (already_open s e) 6 _ refl
-      ∙ ap (cond (already_open s e) (No 6))
+      ∙ ap (cond (already_open s e) (refused 6))
       (pick p (none_open s e) 7 _ refl
-      ∙ ap (cond (none_open s e) (No 7))
+      ∙ ap (cond (none_open s e) (refused 7))
       (pick p (replica_off s held e) 8 _ refl
-      ∙ ap (cond (replica_off s held e) (No 8))
+      ∙ ap (cond (replica_off s held e) (refused 8))
       (pick p (switched_so s e) 9 _ refl
-      ∙ ap (cond (switched_so s e) (No 9))
+      ∙ ap (cond (switched_so s e) (refused 9))
       (pick p (op_spent s e) 10 _ refl
-      ∙ ap (cond (op_spent s e) (No 10))
+      ∙ ap (cond (op_spent s e) (refused 10))
       (pick p (record_full r e) 11 _ refl
-      ∙ ap (cond (record_full r e) (No 11))
+      ∙ ap (cond (record_full r e) (refused 11))
       (pick p (number_spent s held e) 12 _ refl
-      ∙ ap (cond (number_spent s held e) (No 12))
+      ∙ ap (cond (number_spent s held e) (refused 12))
       (pick p (wire_full r e) 13 _ refl)))))))))))
 
   by_code : in_rack r.settings e ≡ true → checked (decision_of s held e) taken (room_of r.wire) ≡ chain
@@ -357,6 +355,6 @@ module _ (r : Rack) (e : Event) where
   pub in_order_lem : sound_of r ≡ true → decided r e ≡ in_order r e
   in_order_lem h = by_table h ∙ go (in_rack r.settings e) refl
     where
-      go : (t : Bool) → in_rack r.settings e ≡ t → cond (not t) (No 3) chain ≡ cond t (checked (decision_of s held e) taken (room_of r.wire)) (No 3)
+      go : (t : Bool) → in_rack r.settings e ≡ t → cond (not t) (refused 3) chain ≡ cond t (checked (decision_of s held e) taken (room_of r.wire)) (refused 3)
       go true q = sym (by_code q)
       go false q = refl

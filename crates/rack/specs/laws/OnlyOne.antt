@@ -1,11 +1,10 @@
 -- What four words mean, soundness and the maker: no other outcome fits a call, and wrong ones do not meet its contract.
-use Rattle.std.specs.Prelude.{ℕ, ◌≤◌, ◌≡◌, refl, Bool, true, false, [], ◌∷◌, negsuc}
+use Rattle.std.specs.Prelude.{ℕ, ◌≤◌, ◌≡◌, refl, Bool, true, false, [], ◌∷◌, negsuc, None, Some}
 use Rattle.std.proofs.Common.{ap, sym, ◌∙◌, arith}
 use Rattle.std.specs.Int.Count.{ones}
 use Rattle.number.specs.Value.{alternating_of, signed_of}
 use Rattle.quorum.specs.Sets.{majority, asks_enough, within}
 use Rattle.method.specs.declared.Body.TheVariants.{Keep, Kept}
-use Rattle.method.specs.declared.InSlot.TheVariants.{Empty, Full}
 use Rattle.method.specs.declared.Party.{Party}
 use Rattle.method.specs.declared.Event.{Event}
 use Rattle.method.specs.declared.Event.TheVariants.{StartRead, StartWrite, Deliver, Lose, Copy, Resend, Stop, Off, On, Unknown}
@@ -77,11 +76,11 @@ pub not_replica_2_unknown : (r : Bool) → r ≡ message_fits sizes (asks 2) →
 unfolding message_fits body_fits
 not_replica_2_unknown r p q = yes_not_no p q
 
-pub not_empty_unfit : (r : Bool) → r ≡ held_fits sizes Empty → r ≡ false → ⊥
+pub not_empty_unfit : (r : Bool) → r ≡ held_fits sizes None → r ≡ false → ⊥
 unfolding held_fits
 not_empty_unfit r p q = yes_not_no p q
 
-pub not_held_replica_3 : (r : Bool) → r ≡ held_fits sizes (Full (asks 3)) → r ≡ true → ⊥
+pub not_held_replica_3 : (r : Bool) → r ≡ held_fits sizes (Some (asks 3)) → r ≡ true → ⊥
 unfolding held_fits message_fits
 not_held_replica_3 r p q = yes_not_no q p
 

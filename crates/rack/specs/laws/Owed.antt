@@ -1,9 +1,8 @@
 -- Answers owed, from the clients alone.
-use Rattle.std.specs.Prelude.{ℕ, zero, suc, ◌+◌, ◌≤◌, ◌<◌, min, ◌≡◌, refl, Bool, true, false, cond, List, [], ◌∷◌, eqb, ltb, get_or, set, length}
+use Rattle.std.specs.Prelude.{ℕ, zero, suc, ◌+◌, ◌≤◌, ◌<◌, min, ◌≡◌, refl, Bool, true, false, cond, List, [], ◌∷◌, eqb, ltb, get_or, set, length, None, Some, Option}
 use Rattle.std.proofs.Common.{ap, sym, ◌∙◌, arith, get_or-set_same, get_or-set_other, eqb-true, ltb-true, ltb-false}
 use Rattle.std.proofs.lemmas.Bool.{eqb-false}
-use Rattle.method.specs.declared.Work.{Work}
-use Rattle.method.specs.declared.Work.TheVariants.{Idle, Open}
+use Rattle.method.specs.declared.Operation.{Operation}
 use Rattle.method.specs.declared.Party.{Party}
 use Rattle.rack.specs.declared.Rack.{Rack}
 use Rattle.rack.specs.Places.{idle}
@@ -15,10 +14,10 @@ unfolding owed
 owed_in_lem r = refl
 
 -- a client owes one answer at most
-owes_most : (w : Work) → owes w ≤ 1
+owes_most : (w : Option Operation) → owes w ≤ 1
 unfolding owes
-owes_most Idle = omega arith
-owes_most (Open o) = omega arith
+owes_most None = omega arith
+owes_most (Some o) = omega arith
 
 pub owed_one : (p : Party) → owed_by p ≤ 1
 unfolding owed_by

@@ -1,6 +1,6 @@
 -- Each plan stays in the rack: what it leaves of a client and of a pair fits, what it sends fits and goes to replicas that are there, and the answers
 -- that it owes have their place in the record.
-use Rattle.std.specs.Prelude.{ℕ, ◌+◌, ◌≤◌, ◌<◌, ◌≡◌, Bool, true, false, cond, ◌≢◌, ltb}
+use Rattle.std.specs.Prelude.{ℕ, ◌+◌, ◌≤◌, ◌<◌, ◌≡◌, Bool, true, false, cond, ◌≢◌, ltb, None, Some, Option}
 use Rattle.std.proofs.Math.Path.{refl, subst}
 use Rattle.std.proofs.Common.{ap, sym, ◌∙◌, arith, ltb-true}
 use Rattle.record.specs.declared.Client.{Client}
@@ -12,16 +12,11 @@ use Rattle.stamps.specs.Stamp.{stamp_less, raised}
 use Rattle.method.specs.declared.Body.{Body}
 use Rattle.method.specs.declared.Body.TheVariants.{Ask, Tell, Keep, Kept}
 use Rattle.method.specs.declared.Message.{Message}
-use Rattle.method.specs.declared.InSlot.{InSlot}
-use Rattle.method.specs.declared.InSlot.TheVariants.{Empty, Full}
 use Rattle.method.specs.declared.Goal.{Goal}
 use Rattle.method.specs.declared.Goal.TheVariants.{Read, Write}
-use Rattle.method.specs.declared.Holding.{Holding}
-use Rattle.method.specs.declared.Holding.TheVariants.{NoPair, Holds}
 use Rattle.method.specs.declared.Phase.{Phase}
 use Rattle.method.specs.declared.Phase.TheVariants.{Asking, Keeping}
 use Rattle.method.specs.declared.Operation.{Operation}
-use Rattle.method.specs.declared.Work.TheVariants.{Idle, Open}
 use Rattle.method.specs.declared.Party.{Party}
 use Rattle.method.specs.declared.Sight.{Sight}
 use Rattle.method.specs.declared.Event.{Event}
@@ -48,7 +43,7 @@ kept_for (Asked e) = 2
 kept_for (Ended e) = 0
 
 -- a plan in a rack of settings z, for an event that looked at a client and a slot
-pub record PlanFits (z : Settings) (party : Party) (held : InSlot) (p : Plan) : Type 0 where
+pub record PlanFits (z : Settings) (party : Party) (held : Option Message) (p : Plan) : Type 0 where
   pub work : work_fits z p.party.work ≡ true
   pub pair : pair_fits z p.pair ≡ true
   pub to : within z.replicas p.to ≡ true
@@ -56,7 +51,7 @@ pub record PlanFits (z : Settings) (party : Party) (held : InSlot) (p : Plan) : 
   pub entries : entries_in p.note + owed_by p.party ≤ owed_by party + kept_for p.note
   pub slot : p.clear ≡ true → is_empty held ≡ false
 
-no_slot : (held : InSlot) → false ≡ true → is_empty held ≡ false
+no_slot : (held : Option Message) → false ≡ true → is_empty held ≡ false
 no_slot held e = never e
 
 -- what is sent, whoever it goes to
@@ -75,10 +70,10 @@ raised_fits z p q hp hq = go (stamp_less p.stamp q.stamp)
     go true = hq
     go false = hp
 
-holds_fits : (z : Settings) (set : ℕ) (held : Holding) (q : Pair) → HoldingFits z set held → pair_fits z q ≡ true → pair_fits z (holds held q) ≡ true
+holds_fits : (z : Settings) (set : ℕ) (held : Option Pair) (q : Pair) → HoldingFits z set held → pair_fits z q ≡ true → pair_fits z (holds held q) ≡ true
 unfolding holds
-holds_fits z set NoPair q h hq = hq
-holds_fits z set (Holds p) q h hq = raised_fits z p q h.1 hq
+holds_fits z set None q h hq = hq
+holds_fits z set (Some p) q h hq = raised_fits z p q h.1 hq
 
 chosen_fits : (z : Settings) (goal : Goal) (client : ℕ) (held chosen : Pair) → client < z.clients → pair_fits z held ≡ true → Chosen goal client held chosen
     → pair_fits z chosen ≡ true
@@ -99,7 +94,7 @@ unfolding body_fits
 request_fits z set (Asking held) h = refl
 request_fits z set (Keeping held) h = h.0
 
-idle_fits : (z : Settings) → work_fits z Idle ≡ true
+idle_fits : (z : Settings) → work_fits z None ≡ true
 unfolding work_fits
 idle_fits z = refl
 
@@ -110,7 +105,7 @@ with_some set k h e =
     never (sym (none_has k) ∙ a)
 
 -- a client with an open operation owes an answer, if it isn't stopped
-pub open_owes : (party : Party) (o : Operation) → party.stopped ≡ false → party.work ≡ Open o → owed_by party ≡ 1
+pub open_owes : (party : Party) (o : Operation) → party.stopped ≡ false → party.work ≡ Some o → owed_by party ≡ 1
 unfolding owed_by owes
 open_owes party o a w = rw (a, w)
 
@@ -134,12 +129,12 @@ module _ (z : Settings) (n : Sized z) (power : ℕ) (party : Party) (pair : Pair
   some set k h = with_some set k (omega (arith, bits_enough z n, h))
 
   -- what is open fits
-  is_open : (o : Operation) → party.work ≡ Open o → Opened z o
+  is_open : (o : Operation) → party.work ≡ Some o → Opened z o
   is_open o w = opened z o (ap (work_fits z) (sym w) ∙ work)
 
   -- ---- start
 
-  start_fits : (held : InSlot) (client : Client) (cell : Cell) (goal : Goal) (p : Plan) → client.0 < z.clients → cell.0 < z.cells
+  start_fits : (held : Option Message) (client : Client) (cell : Cell) (goal : Goal) (p : Plan) → client.0 < z.clients → cell.0 < z.cells
       → Starts seen client cell goal p → PlanFits z party held p
   unfolding entries_in owed_by owes body_fits
   start_fits held client cell goal p hc hx st =
@@ -160,11 +155,11 @@ module _ (z : Settings) (n : Sized z) (power : ℕ) (party : Party) (pair : Pair
     same_message : (k : ℕ) → k < z.replicas → message_fits z (message_of m.client (record { 0 = k }) m.cell m.op m.body) ≡ true
     same_message = sends z m.client m.cell m.op m.body h.client h.cell h.body
 
-    used_fits : PlanFits z party (Full m) (used_up seen m)
+    used_fits : PlanFits z party (Some m) (used_up seen m)
     unfolding entries_in
     used_fits = record { work = work; pair = here; to = to_none; message = same_message; entries = omega arith; slot = λ e. refl }
 
-    answered_fits : (after : Pair) (body : Body) → pair_fits z after ≡ true → body_fits z body ≡ true → PlanFits z party (Full m) (answered seen after m body)
+    answered_fits : (after : Pair) (body : Body) → pair_fits z after ≡ true → body_fits z body ≡ true → PlanFits z party (Some m) (answered seen after m body)
     unfolding entries_in
     answered_fits after body hp hb =
         record {
@@ -176,17 +171,17 @@ module _ (z : Settings) (n : Sized z) (power : ℕ) (party : Party) (pair : Pair
           slot = λ e. refl;
         }
 
-    copy_fits : (p : Plan) → Copies seen m p → PlanFits z party (Full m) p
+    copy_fits : (p : Plan) → Copies seen m p → PlanFits z party (Some m) p
     unfolding entries_in
     copy_fits p c =
-        subst (PlanFits z party (Full m)) (sym c)
+        subst (PlanFits z party (Some m)) (sym c)
         (record {
           work = work;
           pair = here;
           to = more 0 m.replica.0 to_none h.replica;
           message = same_message;
           entries = omega arith;
-          slot = no_slot (Full m);
+          slot = no_slot (Some m);
         })
 
     -- the pair that is held after a tell
@@ -196,16 +191,16 @@ module _ (z : Settings) (n : Sized z) (power : ℕ) (party : Party) (pair : Pair
         let ph : PhaseFits z x.operation.set (Asking x.held) = subst (PhaseFits z x.operation.set) x.phase o.phase in
         holds_fits z x.operation.set x.held x.told ph.0 (told_fits z m.body x.told h.body x.body)
 
-    deliver_fits : (p : Plan) → Delivers seen m p → PlanFits z party (Full m) p
+    deliver_fits : (p : Plan) → Delivers seen m p → PlanFits z party (Some m) p
     unfolding entries_in owed_by owes body_fits
-    deliver_fits p (tells x) = subst (PlanFits z party (Full m)) (sym x.plan) (answered_fits pair (Tell pair) here here)
+    deliver_fits p (tells x) = subst (PlanFits z party (Some m)) (sym x.plan) (answered_fits pair (Tell pair) here here)
     deliver_fits p (takes x) =
-        subst (PlanFits z party (Full m)) (sym x.plan)
+        subst (PlanFits z party (Some m)) (sym x.plan)
         (answered_fits (raised pair x.given) Kept (raised_fits z pair x.given here (given_fits z m.body x.given h.body x.body)) refl)
     deliver_fits p (hears x) =
         let y = x.heard in
         let o : Opened z y.operation = is_open y.operation y.before in
-        subst (PlanFits z party (Full m)) (sym x.plan)
+        subst (PlanFits z party (Some m)) (sym x.plan)
         (record {
           work = open_fits z (asking y.operation (heard_set y) (heard_pair y)) (record {
             cell = o.cell;
@@ -222,7 +217,7 @@ module _ (z : Settings) (n : Sized z) (power : ℕ) (party : Party) (pair : Pair
         let y = x.heard in
         let o : Opened z y.operation = is_open y.operation y.before in
         let hp = chosen_fits z y.operation.goal m.client.0 (heard_pair y) x.chosen h.client (heard_fits y) x.choice in
-        subst (PlanFits z party (Full m)) (sym x.plan)
+        subst (PlanFits z party (Some m)) (sym x.plan)
         (record {
           work = open_fits z (keeping y.operation 0 x.chosen) (record { cell = o.cell; set = to_none; phase = (hp, none_keeps (quorums_of z) n.some_replica) });
           pair = here;
@@ -235,7 +230,7 @@ module _ (z : Settings) (n : Sized z) (power : ℕ) (party : Party) (pair : Pair
         let y = x.counted in
         let o : Opened z y.operation = is_open y.operation y.before in
         let ph : PhaseFits z y.operation.set (Keeping y.held) = subst (PhaseFits z y.operation.set) y.phase o.phase in
-        subst (PlanFits z party (Full m)) (sym x.plan)
+        subst (PlanFits z party (Some m)) (sym x.plan)
         (record {
           work = open_fits z (keeping y.operation _ y.held) (record {
             cell = o.cell;
@@ -250,7 +245,7 @@ module _ (z : Settings) (n : Sized z) (power : ℕ) (party : Party) (pair : Pair
         })
     deliver_fits p (ends x) =
         let y = x.counted in
-        subst (PlanFits z party (Full m)) (sym x.plan)
+        subst (PlanFits z party (Some m)) (sym x.plan)
         (record {
           work = idle_fits z;
           pair = here;
@@ -259,11 +254,11 @@ module _ (z : Settings) (n : Sized z) (power : ℕ) (party : Party) (pair : Pair
           entries = omega (arith, open_owes party y.operation y.acts y.before);
           slot = λ e. refl;
         })
-    deliver_fits p (spends x) = subst (PlanFits z party (Full m)) (sym x.plan) used_fits
+    deliver_fits p (spends x) = subst (PlanFits z party (Some m)) (sym x.plan) used_fits
 
   -- ---- resend, stop, power
 
-  resend_fits : (held : InSlot) (client : Client) (p : Plan) → client.0 < z.clients → Resends seen client p → PlanFits z party held p
+  resend_fits : (held : Option Message) (client : Client) (p : Plan) → client.0 < z.clients → Resends seen client p → PlanFits z party held p
   unfolding entries_in
   resend_fits held client p hc x =
       let o : Opened z x.operation = is_open x.operation x.before in
@@ -282,19 +277,19 @@ module _ (z : Settings) (n : Sized z) (power : ℕ) (party : Party) (pair : Pair
   unfolding body_fits
   nothing_sent k hk = sends z (record { 0 = 0 }) (record { 0 = 0 }) 0 Ask n.some_client n.some_cell refl k hk
 
-  stop_fits : (held : InSlot) (p : Plan) → Stops seen p → PlanFits z party held p
+  stop_fits : (held : Option Message) (p : Plan) → Stops seen p → PlanFits z party held p
   unfolding entries_in owed_by
   stop_fits held p x =
       subst (PlanFits z party held) (sym x.plan)
       (record { work = work; pair = here; to = to_none; message = nothing_sent; entries = omega arith; slot = no_slot held })
 
-  powered_fits : (held : InSlot) (after : ℕ) → PlanFits z party held (powered seen after)
+  powered_fits : (held : Option Message) (after : ℕ) → PlanFits z party held (powered seen after)
   unfolding entries_in
   powered_fits held after = record { work = work; pair = here; to = to_none; message = nothing_sent; entries = omega arith; slot = no_slot held }
 
   -- ---- every event
 
-  pub plan_fits : (held : InSlot) → held_fits z held ≡ true → (e : Event) → in_rack z e ≡ true → (p : Plan) → Does seen held e p → PlanFits z party held p
+  pub plan_fits : (held : Option Message) → held_fits z held ≡ true → (e : Event) → in_rack z e ≡ true → (p : Plan) → Does seen held e p → PlanFits z party held p
   unfolding in_rack held_fits
   plan_fits held hh (StartRead client cell) i p d =
       start_fits held client cell Read p (ltb-true client.0 z.clients (and_left (ltb client.0 z.clients) (ltb cell.0 z.cells) i))
@@ -302,12 +297,12 @@ module _ (z : Settings) (n : Sized z) (power : ℕ) (party : Party) (pair : Pair
   plan_fits held hh (StartWrite client cell v) i p d =
       start_fits held client cell (Write v) p (ltb-true client.0 z.clients (and_left (ltb client.0 z.clients) (ltb cell.0 z.cells) i))
       (ltb-true cell.0 z.cells (and_right (ltb client.0 z.clients) (ltb cell.0 z.cells) i)) d
-  plan_fits Empty hh (Deliver slot) i p d = absurd d
-  plan_fits (Full m) hh (Deliver slot) i p d = deliver_fits m (named z m hh) p d
-  plan_fits Empty hh (Lose slot) i p d = absurd d
-  plan_fits (Full m) hh (Lose slot) i p d = subst (PlanFits z party (Full m)) (sym d) (used_fits m (named z m hh))
-  plan_fits Empty hh (Copy slot) i p d = absurd d
-  plan_fits (Full m) hh (Copy slot) i p d = copy_fits m (named z m hh) p d
+  plan_fits None hh (Deliver slot) i p d = absurd d
+  plan_fits (Some m) hh (Deliver slot) i p d = deliver_fits m (named z m hh) p d
+  plan_fits None hh (Lose slot) i p d = absurd d
+  plan_fits (Some m) hh (Lose slot) i p d = subst (PlanFits z party (Some m)) (sym d) (used_fits m (named z m hh))
+  plan_fits None hh (Copy slot) i p d = absurd d
+  plan_fits (Some m) hh (Copy slot) i p d = copy_fits m (named z m hh) p d
   plan_fits held hh (Resend client) i p d = resend_fits held client p (ltb-true client.0 z.clients i) d
   plan_fits held hh (Stop client) i p d = stop_fits held p d
   plan_fits held hh (Off replica) i p d = subst (PlanFits z party held) (sym d.plan) (powered_fits held _)

@@ -1,5 +1,5 @@
 -- A sound rack part by part: what each test says, and back.
-use Rattle.std.specs.Prelude.{ℕ, ◌+◌, ◌≤◌, ◌<◌, ◌≡◌, Bool, true, false, not, ◌&&◌, ◌≢◌, ltb, leb, eqb, set}
+use Rattle.std.specs.Prelude.{ℕ, ◌+◌, ◌≤◌, ◌<◌, ◌≡◌, Bool, true, false, not, ◌&&◌, ◌≢◌, ltb, leb, eqb, set, None, Some, Option}
 use Rattle.std.proofs.Common.{ap, arith, lt-ltb, ltb-true, le-leb, leb-true, eqb-true, eq-eqb, ne_eqb}
 use Rattle.std.proofs.lemmas.Bool.{eqb-false, not-true}
 use Rattle.record.specs.Entry.{client_limit, cell_limit}
@@ -7,12 +7,9 @@ use Rattle.record.specs.Record.{entry_limit}
 use Rattle.quorum.specs.Sets.{set_bits, within, asks_enough, keeps_enough}
 use Rattle.stamps.specs.declared.Pair.{Pair}
 use Rattle.method.specs.declared.Message.{Message}
-use Rattle.method.specs.declared.Holding.{Holding}
-use Rattle.method.specs.declared.Holding.TheVariants.{NoPair, Holds}
 use Rattle.method.specs.declared.Phase.{Phase}
 use Rattle.method.specs.declared.Phase.TheVariants.{Asking, Keeping}
 use Rattle.method.specs.declared.Operation.{Operation}
-use Rattle.method.specs.declared.Work.TheVariants.{Open}
 use Rattle.rack.specs.declared.Settings.{Settings}
 use Rattle.rack.specs.declared.Rack.{Rack}
 use Rattle.rack.specs.Places.{slot_limit, replica_limit, party_at, pair_at, held_at}
@@ -105,19 +102,19 @@ message_fits_lem z m n =
 -- ---- open operations
 
 -- what is held in the ask phase: nothing while nobody has told, and then a pair of this rack
-abbrev pub HoldingFits : Settings → ℕ → Holding → Type 0
-HoldingFits z set NoPair = set ≡ 0
-HoldingFits z set (Holds p) = (set ≢ 0) × (pair_fits z p ≡ true)
+abbrev pub HoldingFits : Settings → ℕ → Option Pair → Type 0
+HoldingFits z set None = set ≡ 0
+HoldingFits z set (Some p) = (set ≢ 0) × (pair_fits z p ≡ true)
 
-pub holding_fits_lem : (z : Settings) (set : ℕ) (held : Holding) → HoldingFits z set held → holding_fits z set held ≡ true
+pub holding_fits_lem : (z : Settings) (set : ℕ) (held : Option Pair) → HoldingFits z set held → holding_fits z set held ≡ true
 unfolding holding_fits
-holding_fits_lem z set NoPair h = eq-eqb set 0 h
-holding_fits_lem z set (Holds p) h = and_true (not (eqb set 0)) (pair_fits z p) (ap not (ne_eqb set 0 h.0)) h.1
+holding_fits_lem z set None h = eq-eqb set 0 h
+holding_fits_lem z set (Some p) h = and_true (not (eqb set 0)) (pair_fits z p) (ap not (ne_eqb set 0 h.0)) h.1
 
-pub holding_of_lem : (z : Settings) (set : ℕ) (held : Holding) → holding_fits z set held ≡ true → HoldingFits z set held
+pub holding_of_lem : (z : Settings) (set : ℕ) (held : Option Pair) → holding_fits z set held ≡ true → HoldingFits z set held
 unfolding holding_fits
-holding_of_lem z set NoPair e = eqb-true set 0 e
-holding_of_lem z set (Holds p) e =
+holding_of_lem z set None e = eqb-true set 0 e
+holding_of_lem z set (Some p) e =
     (eqb-false set 0 (not-true (eqb set 0) (and_left (not (eqb set 0)) (pair_fits z p) e)), and_right (not (eqb set 0)) (pair_fits z p) e)
 
 -- the phase: what is held fits, and the set isn't enough to end it
@@ -148,7 +145,7 @@ pub record Opened (z : Settings) (o : Operation) : Type 0 where
   pub set : within z.replicas o.set ≡ true
   pub phase : PhaseFits z o.set o.phase
 
-pub opened : (z : Settings) (o : Operation) → work_fits z (Open o) ≡ true → Opened z o
+pub opened : (z : Settings) (o : Operation) → work_fits z (Some o) ≡ true → Opened z o
 unfolding work_fits operation_fits
 opened z o e =
     let a : Bool = ltb o.cell.0 z.cells in
@@ -161,7 +158,7 @@ opened z o e =
       phase = phase_of_lem z o.set o.phase (and_right (a && b) c e);
     }
 
-pub open_fits : (z : Settings) (o : Operation) → Opened z o → work_fits z (Open o) ≡ true
+pub open_fits : (z : Settings) (o : Operation) → Opened z o → work_fits z (Some o) ≡ true
 unfolding work_fits operation_fits
 open_fits z o h =
     and_true _ _ (and_true _ _ (lt-ltb o.cell.0 z.cells h.cell) h.set) (phase_fits_lem z o.set o.phase h.phase)

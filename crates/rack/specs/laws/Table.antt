@@ -4,8 +4,7 @@ use Prim.Native.Nat.{ℕ, ◌+◌, ◌≤◌, ◌<◌}
 use Rattle.std.specs.Prelude.{◌≡◌, Bool}
 use Rattle.std.proofs.Math.Bool.{true, false, cond}
 use Rattle.method.specs.declared.Event.{Event}
-use Rattle.method.specs.declared.Decision.{Decision}
-use Rattle.method.specs.declared.Decision.TheVariants.{No}
+use Rattle.method.specs.Decision.{Decision, refused}
 use Rattle.method.specs.Refusals.{decision_of}
 use Rattle.rack.specs.declared.Rack.{Rack}
 use Rattle.rack.specs.Places.{room_of}
@@ -27,4 +26,4 @@ pub record Least (n k : ℕ) (f : ℕ → Bool) (j : ℕ) : Type 0 where
 -- 3 first, then what the sight tells, then 11 and 13
 abbrev pub in_order : Rack → Event → Decision
 in_order r e =
-    cond (in_rack r.settings e) (checked (decision_of (sight r e) (looked_held r e) e) (r.count + owed r) (room_of r.wire)) (No 3)
+    cond (in_rack r.settings e) (checked (decision_of (sight r e) (looked_held r e) e) (r.count + owed r) (room_of r.wire)) (refused 3)

@@ -1,5 +1,7 @@
 -- `reader::read_fields` meets its contract. Assumes nothing.
-use Rattle.std.proofs.Common.{sym, ◌∙◌, arith, eq-eqb, ne_eqb}
+use Rattle.std.proofs.Common.{sym, arith, eq-eqb, ne_eqb}
+use Rattle.std.proofs.lemmas.Result.{err_from_is_err_and}
+use Rattle.refusal.specs.declared.Refusal.TheVariants.{FieldAbove}
 use Rattle.record.specs.Entry.{last_cell, fields_at}
 use Rattle.number.specs.Number.{and_then}
 use Rattle.record.proofs.theorems.EntryTrip.{passed}
@@ -10,78 +12,57 @@ pub returns-then-kind-eq3 : goal.returns-then-kind-eq3
 unfolding fields_at and_then
 returns-then-kind-eq3 c = simp (eq-eqb _ _ c.if-kind-eq3.true)
 
-pub returns-in-Refused : goal.returns-in-Refused
+pub returns-in_err-v : goal.returns-in_err-v
 unfolding fields_at and_then
-returns-in-Refused c =
+returns-in_err-v c =
+    let p = err_from_is_err_and c.from_residual.result c.from_residual.ensures.1 in
+    rw (p.1, p.2) (simp (ne_eqb _ _ c.if-kind-eq3.false, eq-eqb _ _ c.if-kind-eq2.true, sym c.in_err-v.ensures))
+
+pub returns-then-kind-eq2 : goal.returns-then-kind-eq2
+unfolding fields_at and_then
+returns-then-kind-eq2 c =
     simp (
       ne_eqb _ _ c.if-kind-eq3.false,
       eq-eqb _ _ c.if-kind-eq2.true,
-      sym c.read_number.ensures ∙ c.in-Refused.is,
+      sym c.in_ok-v.ensures,
+      signed_of_bits c.signed.result c.in_ok-v.v (omega arith) c.signed.ensures,
     )
 
-pub returns-in-Is : goal.returns-in-Is
+pub overflow_cast-cell : goal.overflow_cast-cell
+overflow_cast-cell c = omega (arith, (passed last_cell FieldAbove _ _ _ (sym c.in_ok-cell.ensures)).1)
+
+pub returns-in_err-cell : goal.returns-in_err-cell
 unfolding fields_at and_then
-returns-in-Is c =
-    simp (
-      ne_eqb _ _ c.if-kind-eq3.false,
-      eq-eqb _ _ c.if-kind-eq2.true,
-      sym c.read_number.ensures
-          ∙ c.in-Is.is,
-      signed_of_bits c.signed.result c.in-Is.v (omega arith) c.signed.ensures,
-    )
-
-pub overflow_cast-result : goal.overflow_cast-result
-overflow_cast-result c = omega (arith, (passed last_cell 25 _ _ _ (sym c.read_up_to.ensures ∙ c.in-Is-read_up_to.is)).1)
+returns-in_err-cell c =
+    let p = err_from_is_err_and c.from_residual-in_err-cell.result c.from_residual-in_err-cell.ensures.1 in
+    rw (p.1, p.2) (simp (ne_eqb _ _ c.if-kind-eq3.false, ne_eqb _ _ c.if-kind-eq2.false, sym c.in_err-cell.ensures))
 
 pub returns-then-kind-eq0 : goal.returns-then-kind-eq0
 unfolding fields_at and_then
 returns-then-kind-eq0 c =
-    simp (
-      ne_eqb _ _ c.if-kind-eq3.false,
-      ne_eqb _ _ c.if-kind-eq2.false,
-      sym c.read_up_to.ensures ∙ c.in-Is-read_up_to.is,
-      eq-eqb _ _ c.if-kind-eq0.true,
-    )
+    simp (ne_eqb _ _ c.if-kind-eq3.false, ne_eqb _ _ c.if-kind-eq2.false, sym c.in_ok-cell.ensures, eq-eqb _ _ c.if-kind-eq0.true)
 
-pub overflow_cast-result-in-Is-read_number : goal.overflow_cast-result-in-Is-read_number
-overflow_cast-result-in-Is-read_number c =
-    omega (
-      arith,
-      (passed last_cell 25 _ _ _ (sym c.read_up_to.ensures
-          ∙ c.in-Is-read_up_to.is)).1,
-    )
-
-pub returns-in-Refused-read_up_to : goal.returns-in-Refused-read_up_to
+pub returns-in_err-v-2 : goal.returns-in_err-v-2
 unfolding fields_at and_then
-returns-in-Refused-read_up_to c =
+returns-in_err-v-2 c =
+    let p = err_from_is_err_and c.from_residual-in_err-v-2.result c.from_residual-in_err-v-2.ensures.1 in
+    rw (p.1, p.2) (
     simp (
       ne_eqb _ _ c.if-kind-eq3.false,
       ne_eqb _ _ c.if-kind-eq2.false,
-      sym c.read_up_to.ensures ∙ c.in-Refused-read_up_to.is,
-    )
-
-pub returns-in-Refused-read_number : goal.returns-in-Refused-read_number
-unfolding fields_at and_then
-returns-in-Refused-read_number c =
-    simp (
-      ne_eqb _ _ c.if-kind-eq3.false,
-      ne_eqb _ _ c.if-kind-eq2.false,
-      sym c.read_up_to.ensures
-          ∙ c.in-Is-read_up_to.is,
+      sym c.in_ok-cell.ensures,
       ne_eqb _ _ c.if-kind-eq0.false,
-      sym c.read_number-in-Is-read_up_to.ensures ∙ c.in-Refused-read_number.is,
-    )
+      sym c.in_err-v-2.ensures,
+    ))
 
-pub returns-in-Is-read_number : goal.returns-in-Is-read_number
+pub returns : goal.returns
 unfolding fields_at and_then
-returns-in-Is-read_number c =
+returns c =
     simp (
       ne_eqb _ _ c.if-kind-eq3.false,
       ne_eqb _ _ c.if-kind-eq2.false,
-      sym c.read_up_to.ensures
-          ∙ c.in-Is-read_up_to.is,
+      sym c.in_ok-cell.ensures,
       ne_eqb _ _ c.if-kind-eq0.false,
-      sym c.read_number-in-Is-read_up_to.ensures
-          ∙ c.in-Is-read_number.is,
-      signed_of_bits c.signed-in-Is-read_number.result c.in-Is-read_number.v (omega arith) c.signed-in-Is-read_number.ensures,
+      sym c.in_ok-v-2.ensures,
+      signed_of_bits c.signed-2.result c.in_ok-v-2.v (omega arith) c.signed-2.ensures,
     )

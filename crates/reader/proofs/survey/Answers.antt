@@ -1,5 +1,5 @@
 use Rattle.std.proofs.Common.{◌≡◌, ℕ, List, length, true, refl, sym, ◌∙◌}
-use Rattle.record.specs.declared.Found.{Found}
+use Rattle.record.specs.Entry.{Found}
 use Rattle.reader.specs.declared.ReadingHead.{ReadingHead}
 use Rattle.reader.specs.declared.Progress.{Progress}
 use Rattle.reader.specs.Head.{under_head, head_after}

@@ -2,8 +2,7 @@
 -- What `entry_at` and `survey` answer is defined in crate record, and its OnlyOne.antt says that no other answer fits.
 use Rattle.std.specs.Prelude.{ℕ, List, [], ◌∷◌, ◌≡◌}
 use Rattle.std.proofs.Common.{ap, ◌∙◌, sym, arith}
-use Rattle.record.specs.declared.Found.{Found}
-use Rattle.record.specs.Entry.{entry_at}
+use Rattle.record.specs.Entry.{Found, entry_at}
 use Rattle.record.specs.laws.Sheet.{client_8, done_short}
 use Rattle.record.proofs.theorems.OnlyOne.{one_entry}
 use Rattle.reader.specs.declared.ReadingHead.{ReadingHead}

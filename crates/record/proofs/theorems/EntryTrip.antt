@@ -1,22 +1,20 @@
 -- One entry: what was written is read, what is read was written; how long an entry's bytes are.
-use Rattle.std.specs.Prelude.{ℕ, zero, suc, ◌+◌, ◌^◌, ◌<◌, ◌≤◌, List, [], ◌∷◌, ◌++◌, ◌≡◌, refl, Bool, true, false, cond, drop, length, ltb}
+use Rattle.std.specs.Prelude.{ℕ, zero, suc, ◌+◌, ◌^◌, ◌<◌, ◌≤◌, List, [], ◌∷◌, ◌++◌, ◌≡◌, refl, Bool, true, false, cond, drop, length, ltb, Ok, Err}
 use Rattle.std.proofs.Common.{append_assoc, ap, ◌∙◌, subst₂, arith, length-append, le-ltb, ltb-false}
-use Rattle.number.specs.Number.{group_size, number_bytes, number_at, and_then}
+use Rattle.number.specs.Number.{Number, group_size, number_bytes, number_at, and_then}
 use Rattle.number.specs.Value.{alternating_of, signed_of}
-use Rattle.number.specs.laws.NumberLaws.{length_some, length_few, bytes_small, bytes_below}
+use Rattle.number.specs.laws.NumberLaws.{length_some, length_few, bytes_small, bytes_below, same_read}
 use Rattle.number.specs.laws.ValueLaws.{signed_alternating, alternating_signed, alternating_below, signed_fits}
 use Rattle.number.specs.Stands.{Stands}
 use Rattle.number.proofs.theorems.Trip.{drop_past, reads_written, written_read}
-use Rattle.number.specs.declared.Number.{Number}
-use Rattle.number.specs.declared.Number.TheVariants.{Is, Refused}
 use Rattle.record.specs.declared.Entry.{Entry}
 use Rattle.record.specs.declared.Entry.TheVariants.{ReadAsked, WriteAsked, Told, Done}
-use Rattle.record.specs.declared.Found.{Found}
-use Rattle.record.specs.declared.Found.TheVariants.{At, Fault}
-use Rattle.record.specs.Entry.{last_client, last_cell, longest_entry, entry_bytes, up_to, fields_at, entry_at}
+use Rattle.record.specs.Entry.{Found, last_client, last_cell, longest_entry, entry_bytes, up_to, fields_at, entry_at}
 use Rattle.record.specs.Legal.{InRange}
 use Rattle.number.specs.Below.{byte_limit, Below, Bytes}
 use Rattle.record.specs.laws.EntryTrip.{Went, WasWritten}
+use Rattle.refusal.specs.declared.Refusal.{Refusal}
+use Rattle.refusal.specs.declared.Refusal.TheVariants.{KindAbove, FieldAbove}
 
 -- ---- what was written is read
 
@@ -24,7 +22,7 @@ use Rattle.record.specs.laws.EntryTrip.{Went, WasWritten}
 record Step (s : List ℕ) (at n : ℕ) (more : List ℕ) : Type 0 where
   place : ℕ
   is : place ≡ at + length (number_bytes n)
-  gives : number_at s at ≡ Is n place
+  gives : number_at s at ≡ Ok (n, place)
   rest : drop place s ≡ more
 
 step : (s : List ℕ) (at n : ℕ) (more : List ℕ) → n < 2 ^ 32 → drop at s ≡ number_bytes n ++ more → Step s at n more
@@ -36,11 +34,11 @@ step s at n more h e = record {
 }
 
 -- a number within its limit
-within_limit : (limit refusal n next : ℕ) → n ≤ limit → up_to limit refusal (Is n next) ≡ Is n next
+within_limit : (limit : ℕ) (refusal : Refusal) (n next : ℕ) → n ≤ limit → up_to limit refusal (Ok (n, next)) ≡ Ok (n, next)
 unfolding up_to
 within_limit limit refusal n next h = simp (le-ltb limit n h)
 
-checked : {s : List ℕ} {at n : ℕ} {more : List ℕ} (limit refusal : ℕ) (w : Step s at n more) → n ≤ limit → up_to limit refusal (number_at s at) ≡ Is n w.place
+checked : {s : List ℕ} {at n : ℕ} {more : List ℕ} (limit : ℕ) (refusal : Refusal) (w : Step s at n more) → n ≤ limit → up_to limit refusal (number_at s at) ≡ Ok (n, w.place)
 checked {s} {at} {n} limit refusal w h = ap (up_to limit refusal) w.gives ∙ within_limit limit refusal n w.place h
 
 -- kind and client at place at, and then others: both are read, and the entry's fields are those that stand after them
@@ -56,59 +54,59 @@ unfolding entry_at and_then
 head s at kind client more hk hc e =
     let a = step s at kind (number_bytes client ++ more) (omega arith) e in
     let b = step s a.place client more (omega arith) a.rest in
-    record { place = b.place; is = omega (arith, a.is, b.is); gives = simp (checked 3 24 a hk, checked last_client 25 b hc); rest = b.rest }
+    record { place = b.place; is = omega (arith, a.is, b.is); gives = simp (checked 3 KindAbove a hk, checked last_client FieldAbove b hc); rest = b.rest }
 
 -- an entry's bytes at place at are read as the entry, whatever follows
-pub reads_entry : (e : Entry) (s : List ℕ) (at : ℕ) (more : List ℕ) → InRange e → drop at s ≡ entry_bytes e ++ more → entry_at s at ≡ At e (at + length (entry_bytes e))
+pub reads_entry : (e : Entry) (s : List ℕ) (at : ℕ) (more : List ℕ) → InRange e → drop at s ≡ entry_bytes e ++ more → entry_at s at ≡ Ok (e, at + length (entry_bytes e))
 unfolding entry_bytes fields_at and_then
 reads_entry (ReadAsked client cell) s at more h e =
     let a = head s at 0 client.0 (number_bytes cell.0 ++ more) (omega arith) h.0 (e ∙ simp append_assoc) in
     let b = step s a.place cell.0 more (omega arith) a.rest in
-    a.gives ∙ simp (checked last_cell 25 b h.1) (ap (At (ReadAsked client cell)) (simp length-append (omega (arith, a.is, b.is))))
+    a.gives ∙ simp (checked last_cell FieldAbove b h.1) (ap (λ (x : ℕ). Ok (ReadAsked client cell, x)) (simp length-append (omega (arith, a.is, b.is))))
 reads_entry (WriteAsked client cell v) s at more h e =
     let a = head s at 1 client.0 (number_bytes cell.0 ++ (number_bytes (alternating_of v) ++ more)) (omega arith) h.0 (e ∙ simp append_assoc) in
     let b = step s a.place cell.0 (number_bytes (alternating_of v) ++ more) (omega arith) a.rest in
     let c = step s b.place (alternating_of v) more (alternating_below v h.2) b.rest in
     a.gives
-    ∙ simp (checked last_cell 25 b h.1, c.gives, signed_alternating) (ap (At (WriteAsked client cell v)) (simp length-append (omega (arith, a.is, b.is, c.is))))
+    ∙ simp (checked last_cell FieldAbove b h.1, c.gives, signed_alternating) (ap (λ (x : ℕ). Ok (WriteAsked client cell v, x)) (simp length-append (omega (arith, a.is, b.is, c.is))))
 reads_entry (Told client v) s at more h e =
     let a = head s at 2 client.0 (number_bytes (alternating_of v) ++ more) (omega arith) h.0 (e ∙ simp append_assoc) in
     let b = step s a.place (alternating_of v) more (alternating_below v h.1) a.rest in
-    a.gives ∙ simp (b.gives, signed_alternating) (ap (At (Told client v)) (simp length-append (omega (arith, a.is, b.is))))
+    a.gives ∙ simp (b.gives, signed_alternating) (ap (λ (x : ℕ). Ok (Told client v, x)) (simp length-append (omega (arith, a.is, b.is))))
 reads_entry (Done client) s at more h e =
     let a = head s at 3 client.0 more (omega arith) h (e ∙ simp append_assoc) in
-    a.gives ∙ ap (At (Done client)) (simp length-append (omega (arith, a.is)))
+    a.gives ∙ ap (λ (x : ℕ). Ok (Done client, x)) (simp length-append (omega (arith, a.is)))
 
 -- ---- what is read was written
 
-pub never : {A : Type 0} {k : ℕ} {e : Entry} {next : ℕ} → Fault k ≡ At e next → A
+pub never : {A : Type 0} {k : Refusal} {e : Entry} {next : ℕ} → ◌≡◌ {A = Found} (Err k) (Ok (e, next)) → A
 never p = let z : ◌≡◌ {A = ℕ} 0 1 = cc in absurd (omega arith)
 
 -- an entry was read, so its number was, and the rest after it
-pub went : (r : Number) (go : ℕ → ℕ → Found) (e : Entry) (next : ℕ) → and_then Fault r go ≡ At e next → Went r go e next
+pub went : (r : Number) (go : ℕ → ℕ → Found) (e : Entry) (next : ℕ) → and_then Err r go ≡ Ok (e, next) → Went r go e next
 unfolding and_then
-went (Refused k) go e next p = never p
-went (Is n m) go e next p = record { n = n; m = m; is = refl; on = p }
+went (Err k) go e next p = never p
+went (Ok (n, m)) go e next p = record { n = n; m = m; is = refl; on = p }
 
 -- what `up_to` let through is what was read, and not above the limit
-pub passed : (limit refusal n next : ℕ) (r : Number) → up_to limit refusal r ≡ Is n next → (r ≡ Is n next) × (n ≤ limit)
+pub passed : (limit : ℕ) (refusal : Refusal) (n next : ℕ) (r : Number) → up_to limit refusal r ≡ Ok (n, next) → (r ≡ Ok (n, next)) × (n ≤ limit)
 unfolding up_to
-passed limit refusal n next (Refused k) p = let z : ◌≡◌ {A = ℕ} 0 1 = cc in absurd (omega arith)
-passed limit refusal n next (Is m k) p = go (ltb limit m) refl p
+passed limit refusal n next (Err k) p = let z : ◌≡◌ {A = ℕ} 0 1 = cc in absurd (omega arith)
+passed limit refusal n next (Ok (m, k)) p = go (ltb limit m) refl p
   where
-    go : (t : Bool) → ltb limit m ≡ t → cond t (Refused refusal) (Is m k) ≡ Is n next → (Is m k ≡ Is n next) × (n ≤ limit)
+    go : (t : Bool) → ltb limit m ≡ t → cond {A = Number} t (Err refusal) (Ok (m, k)) ≡ Ok (n, next) → (◌≡◌ {A = Number} (Ok (m, k)) (Ok (n, next))) × (n ≤ limit)
     go true e q = let z : ◌≡◌ {A = ℕ} 0 1 = cc in absurd (omega arith)
-    go false e q = let i : m ≡ n = cc in (q, omega (arith, ltb-false limit m e))
+    go false e q = (q, omega (arith, (same_read q).0, ltb-false limit m e))
 
-same : {s : List ℕ} {at : ℕ} {e e' : Entry} {next next' : ℕ} → At e next ≡ At e' next' → WasWritten s at e next → WasWritten s at e' next'
-same {s} {at} p w = subst₂ (WasWritten s at) (cc) (cc) w
+same : {s : List ℕ} {at : ℕ} {e e' : Entry} {next next' : ℕ} → ◌≡◌ {A = Found} (Ok (e, next)) (Ok (e', next')) → WasWritten s at e next → WasWritten s at e' next'
+same {s} {at} p w = subst₂ (WasWritten s at) (same_read p).0 (same_read p).1 w
 
 fields : (s : List ℕ) (at a b kind client : ℕ) (e : Entry) (next : ℕ) → Bytes s → Stands s at kind a → Stands s a client b → client ≤ last_client → kind ≤ 3
-    → fields_at s b kind client ≡ At e next → WasWritten s at e next
+    → fields_at s b kind client ≡ Ok (e, next) → WasWritten s at e next
 unfolding fields_at entry_bytes
 fields s at a b zero client e next h wk wc hc hk p =
-    let w = went (up_to last_cell 25 (number_at s b)) (λ cell c. At (ReadAsked (record { 0 = client }) (record { 0 = cell })) c) e next p in
-    let q = passed last_cell 25 w.n w.m (number_at s b) w.is in
+    let w = went (up_to last_cell FieldAbove (number_at s b)) (λ cell c. Ok (ReadAsked (record { 0 = client }) (record { 0 = cell }), c)) e next p in
+    let q = passed last_cell FieldAbove w.n w.m (number_at s b) w.is in
     let d = written_read s b w.n w.m h q.0 in
     same w.on (record {
       bytes = wk.here ∙ simp (wc.here, d.here, append_assoc);
@@ -117,11 +115,11 @@ fields s at a b zero client e next h wk wc hc hk p =
       within = d.within;
     })
 fields s at a b (suc zero) client e next h wk wc hc hk p =
-    let w = went (up_to last_cell 25 (number_at s b))
-    (λ cell c. and_then Fault (number_at s c) (λ v d. At (WriteAsked (record { 0 = client }) (record { 0 = cell }) (signed_of v)) d)) e next p in
-    let q = passed last_cell 25 w.n w.m (number_at s b) w.is in
+    let w = went (up_to last_cell FieldAbove (number_at s b))
+    (λ cell c. and_then Err (number_at s c) (λ v d. Ok (WriteAsked (record { 0 = client }) (record { 0 = cell }) (signed_of v), d))) e next p in
+    let q = passed last_cell FieldAbove w.n w.m (number_at s b) w.is in
     let d = written_read s b w.n w.m h q.0 in
-    let u = went (number_at s w.m) (λ v x. At (WriteAsked (record { 0 = client }) (record { 0 = w.n }) (signed_of v)) x) e next w.on in
+    let u = went (number_at s w.m) (λ v x. Ok (WriteAsked (record { 0 = client }) (record { 0 = w.n }) (signed_of v), x)) e next w.on in
     let f = written_read s w.m u.n u.m h u.is in
     same u.on (record {
       bytes = wk.here ∙ simp (wc.here, d.here, f.here, alternating_signed, append_assoc);
@@ -130,7 +128,7 @@ fields s at a b (suc zero) client e next h wk wc hc hk p =
       within = f.within;
     })
 fields s at a b (suc (suc zero)) client e next h wk wc hc hk p =
-    let u = went (number_at s b) (λ v x. At (Told (record { 0 = client }) (signed_of v)) x) e next p in
+    let u = went (number_at s b) (λ v x. Ok (Told (record { 0 = client }) (signed_of v), x)) e next p in
     let f = written_read s b u.n u.m h u.is in
     same u.on (record {
       bytes = wk.here ∙ simp (wc.here, f.here, alternating_signed, append_assoc);
@@ -148,13 +146,13 @@ fields s at a b (suc (suc (suc zero))) client e next h wk wc hc hk p =
 fields s at a b (suc (suc (suc (suc k)))) client e next h wk wc hc hk p = absurd (omega arith)
 
 -- an entry that is read is in range, and its bytes are those that writing it gives
-pub written_entry : (s : List ℕ) (at : ℕ) (e : Entry) (next : ℕ) → Bytes s → entry_at s at ≡ At e next → WasWritten s at e next
+pub written_entry : (s : List ℕ) (at : ℕ) (e : Entry) (next : ℕ) → Bytes s → entry_at s at ≡ Ok (e, next) → WasWritten s at e next
 unfolding entry_at
 written_entry s at e next h p =
-    let w = went (up_to 3 24 (number_at s at)) (λ kind a. and_then Fault (up_to last_client 25 (number_at s a)) (λ client b. fields_at s b kind client)) e next p in
-    let q = passed 3 24 w.n w.m (number_at s at) w.is in
-    let u = went (up_to last_client 25 (number_at s w.m)) (λ client b. fields_at s b w.n client) e next w.on in
-    let r = passed last_client 25 u.n u.m (number_at s w.m) u.is in
+    let w = went (up_to 3 KindAbove (number_at s at)) (λ kind a. and_then Err (up_to last_client FieldAbove (number_at s a)) (λ client b. fields_at s b kind client)) e next p in
+    let q = passed 3 KindAbove w.n w.m (number_at s at) w.is in
+    let u = went (up_to last_client FieldAbove (number_at s w.m)) (λ client b. fields_at s b w.n client) e next w.on in
+    let r = passed last_client FieldAbove u.n u.m (number_at s w.m) u.is in
     fields s at w.m u.m w.n u.n e next h (written_read s at w.n w.m h q.0) (written_read s w.m u.n u.m h r.0) r.1 q.1 u.on
 
 -- ---- an entry's bytes

@@ -1,14 +1,13 @@
 -- Whole records: what was written is read, what is read is written back byte for byte, and how long they are.
 use Prim.Native.Nat.{ℕ, zero, suc, ◌+◌, ◌*◌, ◌<◌, ◌≤◌}
 use mathlib.Core.List.{List, [], ◌∷◌, ◌++◌}
-use Rattle.std.specs.Prelude.{◌≡◌, refl, Bool, true, false, drop, ltb}
+use Rattle.std.specs.Prelude.{◌≡◌, refl, Bool, true, false, drop, ltb, Ok}
 use Rattle.std.proofs.Math.Path.{ap}
 use Rattle.std.proofs.Common.{◌∙◌, sym, arith, length-append, length-drop, drop_of_length-le, lt-ltb, le-ltb, ltb-false}
 use Rattle.std.proofs.Math.ListN.{length}
 use Rattle.number.proofs.theorems.Trip.{drop_past}
 use Rattle.record.specs.declared.Entry.{Entry}
-use Rattle.record.specs.declared.Found.{Found}
-use Rattle.record.specs.declared.Found.TheVariants.{At}
+use Rattle.record.specs.Entry.{Found}
 use Rattle.record.specs.declared.Standing.{Standing}
 use Rattle.record.specs.Entry.{longest_entry, entry_bytes, entry_at}
 use Rattle.record.specs.Record.{longest_record, entry_limit, fresh, standing_after, entries, before, held_from, bytes_held, all_of, bytes_of}
@@ -20,7 +19,7 @@ use Rattle.record.specs.laws.Trip.{Source}
 
 -- ---- what is held has no fault
 
-module _ (more : ℕ → Bool) (found : ℕ → Found) (range : (at : ℕ) (e : Entry) (next : ℕ) → found at ≡ At e next → InRange e) where
+module _ (more : ℕ → Bool) (found : ℕ → Found) (range : (at : ℕ) (e : Entry) (next : ℕ) → found at ≡ Ok (e, next) → InRange e) where
   held_follows : (es : List Entry) (left at n : ℕ) (st : Standing) → held_from more found left at n st ≡ entries es → Follows st es
   held_follows [] left at n st p = tt
   held_follows (e ∷ es) left at n st p =

@@ -1,16 +1,10 @@
 -- `rows::put_row` meets its contract. Assumes nothing.
-use Rattle.std.proofs.Common.{arith, length-set, rules}
-use Rattle.rows.proofs.Laws.{put_four}
+use Rattle.std.proofs.Common.{◌≡◌, length, arith, rules}
+use Rattle.rows.proofs.Laws.{put_whole}
 use Rattle.rows.proofs.put_row.Goals as goal
 
-pub bounds-rows-at-2 : goal.bounds-rows-at-2
-bounds-rows-at-2 c = simp length-set (omega arith)
-
-pub bounds-rows-at-3 : goal.bounds-rows-at-3
-bounds-rows-at-3 c = simp length-set (omega arith)
-
-pub bounds-rows-at-4 : goal.bounds-rows-at-4
-bounds-rows-at-4 c = simp length-set (omega arith)
-
 pub returns : goal.returns
-returns c = put_four c.args.rows.now c.args.at c.args.row (search rules)
+returns c =
+    let a = c.args in
+    let four : length a.row ≡ 4 = search rules in
+    rw c.copy_from_slice.ensures.after (put_whole a.rows.now a.row a.at _ (omega (arith, four)) (omega (arith, four)))

@@ -1,18 +1,14 @@
 -- No other outcome fits a call: two that both meet its contract mean the same and are the same, and wrong ones do not meet it.
-use Rattle.std.specs.Prelude.{ℕ, List, [], ◌∷◌, ◌≡◌, Bool, true, false, ℤ, pos, drop, get_or}
+use Rattle.std.specs.Prelude.{ℕ, List, [], ◌∷◌, ◌≡◌, Bool, true, false, ℤ, pos, drop, get_or, Option, Some, None, Ok, Err}
 use Rattle.std.proofs.Common.{ap, ◌∙◌, sym, arith}
 use Rattle.number.specs.Number.{groups_of, put_answer, put_bytes, Placed}
 use Rattle.number.specs.Value.{alternating_of}
-use Rattle.number.specs.declared.Put.{Put}
-use Rattle.number.specs.declared.Put.TheVariants.{Next, NoRoom}
 use Rattle.record.specs.declared.Cell.{Cell}
 use Rattle.record.specs.declared.Client.{Client}
 use Rattle.record.specs.declared.Entry.{Entry}
 use Rattle.record.specs.declared.Entry.TheVariants.{WriteAsked, Told}
-use Rattle.record.specs.declared.Answer.{Answer}
-use Rattle.record.specs.declared.Answer.TheVariants.{All, Refused}
 use Rattle.record.specs.Entry.{entry_bytes}
-use Rattle.record.specs.Record.{Held, all_of}
+use Rattle.record.specs.Record.{Answer, Held, all_of}
 use Rattle.record.specs.Answers.{count_in}
 use Rattle.record.specs.Examples.{sheet_bytes}
 use Rattle.record.specs.laws.Sheet.{sheet_reads, second_faulty}
@@ -22,6 +18,7 @@ use Rattle.rows.specs.Rows.{Outcome, Leaves, stored, read_into, write_into, read
 use Rattle.rows.specs.laws.Sheet.{sheet_rows, row_client_8, one_row}
 use Rattle.rows.specs.Same.{OneStored, SameOutcome}
 use Rattle.rows.specs.Examples.{room}
+use Rattle.refusal.specs.declared.Refusal.TheVariants.{TooShort, FieldAbove}
 
 pub one_row_of : (e : Entry) (r r' : List ℕ) → r ≡ row_of e → r' ≡ row_of e → r ≡ r'
 one_row_of e r r' p q = p ∙ sym q
@@ -57,14 +54,14 @@ one_read s d r r' e e' p q = same_outcome (read_outcome s d) r r' e e' p q
 pub one_write : (ws d : List ℕ) (r r' : Answer) (e e' : List ℕ) → Leaves (write_outcome ws d) r e → Leaves (write_outcome ws d) r' e' → SameOutcome r r' e e'
 one_write ws d r r' e e' p q = same_outcome (write_outcome ws d) r r' e e' p q
 
-sheet_read : read_outcome sheet_bytes room ≡ record { answer = All 4; lent = 1 ∷ 0 ∷ 2 ∷ 10 ∷ 3 ∷ 0 ∷ 0 ∷ 0 ∷ 0 ∷ 1 ∷ 2 ∷ 0 ∷ 2 ∷ 1 ∷ 0 ∷ 10 ∷ 9 ∷ [] }
+sheet_read : read_outcome sheet_bytes room ≡ record { answer = Ok 4; lent = 1 ∷ 0 ∷ 2 ∷ 10 ∷ 3 ∷ 0 ∷ 0 ∷ 0 ∷ 0 ∷ 1 ∷ 2 ∷ 0 ∷ 2 ∷ 1 ∷ 0 ∷ 10 ∷ 9 ∷ [] }
 unfolding read_into stored
 sheet_read = ap (λ (h : Held). read_into h room) sheet_reads ∙ ap (λ (l : List ℕ). stored l 4 room) sheet_rows
 
 -- the sheet's record isn't refused where there is room, and is not three entries
-pub read_not_20 : (e : List ℕ) (n : ℕ) → Leaves (read_outcome sheet_bytes room) (Refused 20 n) e → ⊥
+pub read_not_20 : (e : List ℕ) (n : ℕ) → Leaves (read_outcome sheet_bytes room) (Err (TooShort, n)) e → ⊥
 read_not_20 e n p =
-    let a : Refused 20 n ≡ All 4 = p.answers ∙ ap (λ (o : Outcome). o.answer) sheet_read in
+    let a : ◌≡◌ {A = Answer} (Err (TooShort, n)) (Ok 4) = p.answers ∙ ap (λ (o : Outcome). o.answer) sheet_read in
     let z : ◌≡◌ {A = ℕ} 0 1 = cc in omega arith
 
 pub read_not_three : (r : Answer) (e : List ℕ) → Leaves (read_outcome sheet_bytes room) r e → count_in r ≡ 3 → ⊥
@@ -93,20 +90,20 @@ read_not_cut r p =
     let z : ◌≡◌ {A = ℕ} 1 9 = cc in omega arith
 
 -- a row of client 8 isn't written
-pub write_not_client_8 : (d e : List ℕ) (n : ℕ) → Leaves (write_outcome (0 ∷ 8 ∷ 0 ∷ 0 ∷ []) d) (All n) e → ⊥
+pub write_not_client_8 : (d e : List ℕ) (n : ℕ) → Leaves (write_outcome (0 ∷ 8 ∷ 0 ∷ 0 ∷ []) d) (Ok n) e → ⊥
 unfolding write_into
 write_not_client_8 d e n p =
-    let a : All n ≡ Refused 25 0 = p.answers ∙ ap (λ (h : Held). (write_into h d).answer) row_client_8 in
+    let a : ◌≡◌ {A = Answer} (Ok n) (Err (FieldAbove, 0)) = p.answers ∙ ap (λ (h : Held). (write_into h d).answer) row_client_8 in
     let z : ◌≡◌ {A = ℕ} 0 1 = cc in omega arith
 
-one_written : write_outcome (0 ∷ 0 ∷ 2 ∷ 77 ∷ []) (9 ∷ 9 ∷ 9 ∷ []) ≡ record { answer = All 3; lent = 0 ∷ 0 ∷ 2 ∷ [] }
+one_written : write_outcome (0 ∷ 0 ∷ 2 ∷ 77 ∷ []) (9 ∷ 9 ∷ 9 ∷ []) ≡ record { answer = Ok 3; lent = 0 ∷ 0 ∷ 2 ∷ [] }
 unfolding write_into stored all_of entry_bytes groups_of
 one_written = ap (λ (h : Held). write_into h (9 ∷ 9 ∷ 9 ∷ [])) one_row
 
 -- three bytes are room for a read asked, and are then written
-pub write_not_20 : (e : List ℕ) (n : ℕ) → Leaves (write_outcome (0 ∷ 0 ∷ 2 ∷ 77 ∷ []) (9 ∷ 9 ∷ 9 ∷ [])) (Refused 20 n) e → ⊥
+pub write_not_20 : (e : List ℕ) (n : ℕ) → Leaves (write_outcome (0 ∷ 0 ∷ 2 ∷ 77 ∷ []) (9 ∷ 9 ∷ 9 ∷ [])) (Err (TooShort, n)) e → ⊥
 write_not_20 e n p =
-    let a : Refused 20 n ≡ All 3 = p.answers ∙ ap (λ (o : Outcome). o.answer) one_written in
+    let a : ◌≡◌ {A = Answer} (Err (TooShort, n)) (Ok 3) = p.answers ∙ ap (λ (o : Outcome). o.answer) one_written in
     let z : ◌≡◌ {A = ℕ} 0 1 = cc in omega arith
 
 pub write_not_left : (r : Answer) → Leaves (write_outcome (0 ∷ 0 ∷ 2 ∷ 77 ∷ []) (9 ∷ 9 ∷ 9 ∷ [])) r (9 ∷ 9 ∷ 9 ∷ []) → ⊥
@@ -115,19 +112,19 @@ write_not_left r p =
     let z : ◌≡◌ {A = ℕ} 9 0 = cc in omega arith
 
 -- a told that has no room isn't begun, one that just fits isn't refused, and its value of 5 isn't written as 5
-pub entry_not_begun : (r : Put) → Placed (9 ∷ 9 ∷ []) 0 (entry_bytes (Told (record { 0 = 1 }) (pos 5))) r (2 ∷ 1 ∷ []) → ⊥
+pub entry_not_begun : (r : Option ℕ) → Placed (9 ∷ 9 ∷ []) 0 (entry_bytes (Told (record { 0 = 1 }) (pos 5))) r (2 ∷ 1 ∷ []) → ⊥
 unfolding put_bytes entry_bytes groups_of alternating_of
 entry_not_begun r p =
     let a : ◌≡◌ {A = List ℕ} (2 ∷ 1 ∷ []) (9 ∷ 9 ∷ []) = p.bytes in
     let z : ◌≡◌ {A = ℕ} 2 9 = cc in omega arith
 
-pub entry_not_20 : (e : List ℕ) → Placed (9 ∷ 9 ∷ 9 ∷ []) 0 (entry_bytes (Told (record { 0 = 1 }) (pos 5))) NoRoom e → ⊥
+pub entry_not_20 : (e : List ℕ) → Placed (9 ∷ 9 ∷ 9 ∷ []) 0 (entry_bytes (Told (record { 0 = 1 }) (pos 5))) None e → ⊥
 unfolding put_answer entry_bytes groups_of alternating_of
 entry_not_20 e p =
-    let a : NoRoom ≡ Next 3 = p.answer in
+    let a : ◌≡◌ {A = Option ℕ} None (Some 3) = p.answer in
     let z : ◌≡◌ {A = ℕ} 0 1 = cc in omega arith
 
-pub entry_not_plain : (r : Put) → Placed (9 ∷ 9 ∷ 9 ∷ []) 0 (entry_bytes (Told (record { 0 = 1 }) (pos 5))) r (2 ∷ 1 ∷ 5 ∷ []) → ⊥
+pub entry_not_plain : (r : Option ℕ) → Placed (9 ∷ 9 ∷ 9 ∷ []) 0 (entry_bytes (Told (record { 0 = 1 }) (pos 5))) r (2 ∷ 1 ∷ 5 ∷ []) → ⊥
 unfolding put_bytes entry_bytes groups_of alternating_of
 entry_not_plain r p =
     let a : ◌≡◌ {A = List ℕ} (2 ∷ 1 ∷ 5 ∷ []) (2 ∷ 1 ∷ 10 ∷ []) = p.bytes in

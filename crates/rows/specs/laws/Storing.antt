@@ -1,24 +1,22 @@
 -- The second pass of the reader and of the writer: each entry's numbers are stored after those of the entries before it.
 use Rattle.std.proofs.Math.ListN.{length, length-append, drop}
-use Rattle.record.specs.declared.Answer.{Answer}
-use Rattle.record.specs.declared.Answer.TheVariants.{All, Refused}
-use Rattle.record.specs.Record.{Held, entries, fault, bytes_of, standing_after, held_from, all_of}
-use Rattle.std.specs.Prelude.{ℕ, ◌+◌, ◌≤◌, ◌<◌, ◌≡◌, Bool, true, false}
+use Rattle.record.specs.Record.{Answer, Held, entries, fault, bytes_of, standing_after, held_from, all_of}
+use Rattle.std.specs.Prelude.{ℕ, ◌+◌, ◌≤◌, ◌<◌, ◌≡◌, Bool, true, false, Ok, Err}
 use Rattle.std.proofs.Common.{sym, ap, ◌∙◌, arith, le-ltb, lt-ltb}
 use mathlib.Core.List.{List, [], ◌∷◌, ◌++◌}
 use Rattle.std.proofs.Math.Seq.{sets, length-sets}
 use Rattle.record.specs.declared.Entry.{Entry}
-use Rattle.record.specs.declared.Found.{Found}
-use Rattle.record.specs.declared.Found.TheVariants.{At}
+use Rattle.record.specs.Entry.{Found}
 use Rattle.record.specs.declared.Standing.{Standing}
 use Rattle.record.specs.laws.Steps.{first, ends, empty}
 use Rattle.rows.specs.Rows.{rows_of, refused, stored}
+use Rattle.refusal.specs.declared.Refusal.TheVariants.{TooShort}
 use Rattle.number.specs.laws.WroteLaws.{sets_append, sets_front}
 
 -- what rows hold, without memory for it: how many bytes it takes
 unfoldable pub measure_of : Held → Answer
-measure_of (entries es) = All (length (bytes_of es))
-measure_of (fault k n) = Refused k n
+measure_of (entries es) = Ok (length (bytes_of es))
+measure_of (fault k n) = Err (k, n)
 
 -- where storing has come to: storing the rest from place out on gives what storing all of it at the front of d₀ gives
 pub record Going (more : ℕ → Bool) (found : ℕ → Found) (f : Entry → List ℕ) (d₀ : List ℕ) (all : List Entry) (d : List ℕ) (at out : ℕ) : Type 0 where
@@ -37,7 +35,7 @@ module _ (more : ℕ → Bool) (found : ℕ → Found) (f : Entry → List ℕ) 
     pub e : Entry
     pub next : ℕ
     pub stands : more at ≡ true
-    pub is : found at ≡ At e next
+    pub is : found at ≡ Ok (e, next)
     pub room : out + length (f e) ≤ length d
     pub going : Going more found f d₀ all (sets d out (f e)) next (out + length (f e))
     pub fewer : length going.rest + 1 ≡ count
@@ -122,10 +120,10 @@ pub record Writable (h : Held) (d : List ℕ) : Type 0 where
   pub room : length (bytes_of all) ≤ length d
 
 -- what is stored where it fits, and where it doesn't
-pub stored_fits : (out : List ℕ) (count : ℕ) (d : List ℕ) → length out ≤ length d → stored out count d ≡ record { answer = All count; lent = out ++ drop (length out) d }
+pub stored_fits : (out : List ℕ) (count : ℕ) (d : List ℕ) → length out ≤ length d → stored out count d ≡ record { answer = Ok count; lent = out ++ drop (length out) d }
 unfolding stored
 stored_fits out count d h = simp (le-ltb (length d) (length out) h)
 
-pub stored_short : (out : List ℕ) (count : ℕ) (d : List ℕ) → length d < length out → stored out count d ≡ refused 20 0 d
+pub stored_short : (out : List ℕ) (count : ℕ) (d : List ℕ) → length d < length out → stored out count d ≡ refused TooShort 0 d
 unfolding stored
 stored_short out count d h = simp (lt-ltb (length d) (length out) h)

@@ -1,5 +1,5 @@
 -- What the loop of a schedule knows, and one turn of it.
-use Rattle.std.specs.Prelude.{ℕ, suc, ◌+◌, ◌-◌, ◌*◌, ◌/◌, ◌≤◌, ◌<◌, ◌≡◌, refl, Bool, true, false, List, [], ◌∷◌, leb, get_or, set, drop}
+use Rattle.std.specs.Prelude.{ℕ, suc, ◌+◌, ◌-◌, ◌*◌, ◌/◌, ◌≤◌, ◌<◌, ◌≡◌, refl, Bool, true, false, List, [], ◌∷◌, leb, get_or, set, drop, Err, Ok}
 use Rattle.std.proofs.Math.Path.{ap, sym}
 use Rattle.std.proofs.Common.{◌∙◌, arith, length-set, leb-true, leb-false}
 use Rattle.std.specs.Int.Count.{ones}
@@ -20,8 +20,7 @@ use Rattle.method.specs.declared.Event.{Event}
 use Rattle.method.specs.declared.Note.{Note}
 use Rattle.method.specs.declared.Note.TheVariants.{Nothing, Asked, Ended}
 use Rattle.method.specs.declared.Plan.{Plan}
-use Rattle.method.specs.declared.Decision.{Decision}
-use Rattle.method.specs.declared.Decision.TheVariants.{No, Go}
+use Rattle.method.specs.Decision.{Decision, refused}
 use Rattle.method.specs.Refusals.{decision_of}
 use Rattle.rack.specs.Places.{slot_limit, pair_limit, empty, idle, held_in, free_at, room_of, sent_of}
 use Rattle.rack.specs.Sound.{sound_of, owed_in, quorums_of}
@@ -124,12 +123,12 @@ module _ (self : Rack) (allowance : ℕ) (ws : List ℕ) (r : Rack) (free : List
       ∙ ap (λ (x : Decision). turn i r e x (λ q. run_from (i + 1) q (allowance - (i + 1)) (drop (4 * (i + 1)) ws))) d
 
   -- an event is refused
-  pub going_no : (e : Event) → e ≡ nth_event ws i → (k n : ℕ) → decided r e ≡ No k → Most allowance (length ws) n → i < n → ran_of i k r ≡ run_from 0 self allowance ws
+  pub going_no : (e : Event) → e ≡ nth_event ws i → (k n : ℕ) → decided r e ≡ Err k → Most allowance (length ws) n → i < n → ran_of i k r ≡ run_from 0 self allowance ws
   unfolding turn
-  going_no e ee k n d m h = sym (next e ee (No k) d (omega (arith, m.below)) (omega (arith, m.whole)))
+  going_no e ee k n d m h = sym (next e ee (Err k) d (omega (arith, m.below)) (omega (arith, m.whole)))
 
   -- a number that is not in this rack
-  pub not_there : (e : Event) → in_rack r.settings e ≡ false → decided r e ≡ No 3
+  pub not_there : (e : Event) → in_rack r.settings e ≡ false → decided r e ≡ refused 3
   not_there e h = in_order_lem r e g.sound ∙ rw h
 
   pub there_slot : (e : Event) (j : ℕ) → in_rack r.settings e ≡ true → j ≡ slot_of e → j < slot_limit
@@ -155,12 +154,12 @@ module _ (self : Rack) (allowance : ℕ) (ws : List ℕ) (r : Rack) (free : List
   going_plan e j c a q o h ej ec ea eq eo = in_order_lem r e g.sound ∙ sym (eo ∙ rw (eq, h, g.rooms, ← owed_in_lem r, ec, ea, ej))
 
   -- its slot is full where it is emptied
-  going_full : (e : Event) (j : ℕ) (p : Plan) → decided r e ≡ Go p → j ≡ slot_of e → p.clear ≡ true → free_at r.wire j ≡ false
+  going_full : (e : Event) (j : ℕ) (p : Plan) → decided r e ≡ Ok p → j ≡ slot_of e → p.clear ≡ true → free_at r.wire j ≡ false
   unfolding free_at
   going_full e j p d ej h = rw ej ((decided_fits r e p g.sound d).fits.slot h)
 
   -- the loop that sends begins
-  pub going_send : (e : Event) (j : ℕ) (p : Plan) (s : Slot) (after : List ℕ) → decided r e ≡ Go p → j ≡ slot_of e → s ≡ slot_after p.clear (get_or r.wire j empty)
+  pub going_send : (e : Event) (j : ℕ) (p : Plan) (s : Slot) (after : List ℕ) → decided r e ≡ Ok p → j ≡ slot_of e → s ≡ slot_after p.clear (get_or r.wire j empty)
       → ((f : ℕ → Bool) → Maps f free → Maps (marked_at p.clear f j) after)
       → Sending r.settings.replicas (set r.wire j s) p.message p.to (set r.wire j s) after p.to
   going_send e j p s after d ej es k =
@@ -170,22 +169,22 @@ module _ (self : Rack) (allowance : ℕ) (ws : List ℕ) (r : Rack) (free : List
       (bits_enough r.settings (sound_of_lem r g.sound).settings)
 
   -- the entry finds its place
-  pub going_entry : (e : Event) (p : Plan) → decided r e ≡ Go p → r.count + entries_in p.note ≤ entry_limit
+  pub going_entry : (e : Event) (p : Plan) → decided r e ≡ Ok p → r.count + entries_in p.note ≤ entry_limit
   unfolding applied_of
   going_entry e p d = omega (arith, (stays r e p g.sound d).entries)
 
   -- the count of the free slots can be kept
-  pub room_fits : (e : Event) (p : Plan) → decided r e ≡ Go p → (ones p.to ≤ room + freed p.clear) × (room ≤ slot_limit)
+  pub room_fits : (e : Event) (p : Plan) → decided r e ≡ Ok p → (ones p.to ≤ room + freed p.clear) × (room ≤ slot_limit)
   room_fits e p d = (omega (arith, g.rooms, (decided_fits r e p g.sound d).room), omega (arith, g.rooms, room_most r.wire))
 
   -- the next turn
-  pub going_on : (e : Event) → e ≡ nth_event ws i → (p : Plan) (s : Rack) (after : List ℕ) (f n : ℕ) → decided r e ≡ Go p
+  pub going_on : (e : Event) → e ≡ nth_event ws i → (p : Plan) (s : Rack) (after : List ℕ) (f n : ℕ) → decided r e ≡ Ok p
       → Most allowance (length ws) n → i < n → s ≡ applied_of r e p → Maps (free_at s.wire) after
       → f ≡ room + freed p.clear - ones p.to → Going self allowance ws s after f (i + 1)
   unfolding turn
   going_on e ee p s after f n d m h es t ef =
       record {
-        steps = next e ee (Go p) d (omega (arith, m.below)) (omega (arith, m.whole))
+        steps = next e ee (Ok p) d (omega (arith, m.below)) (omega (arith, m.whole))
             ∙ ap (λ (q : Rack). run_from (i + 1) q (allowance - (i + 1)) (drop (4 * (i + 1)) ws)) (sym es);
         sound = ap sound_of es ∙ sound_stays r e p g.sound d;
         tied = t;

@@ -1,9 +1,8 @@
 -- A run with the refusals in the order in which the code tests them: on a sound rack it is the run. Examples are computed by it, since it doesn't go through
 -- the whole rack at every event.
-use Rattle.std.specs.Prelude.{ℕ, zero, suc, ◌+◌, ◌≡◌, refl, true, List, [], ◌∷◌}
+use Rattle.std.specs.Prelude.{ℕ, zero, suc, ◌+◌, ◌≡◌, refl, true, List, [], ◌∷◌, Err, Ok}
 use Rattle.std.proofs.Common.{ap, ◌∙◌}
-use Rattle.method.specs.declared.Decision.{Decision}
-use Rattle.method.specs.declared.Decision.TheVariants.{No, Go}
+use Rattle.method.specs.Decision.{Decision}
 use Rattle.rack.specs.declared.Rack.{Rack}
 use Rattle.rack.specs.declared.Ran.{Ran}
 use Rattle.rack.specs.Sound.{sound_of}
@@ -39,8 +38,8 @@ from_ordered done r (suc left) (k ∷ a ∷ b ∷ v ∷ ws) s =
         → ((q : Rack) → sound_of q ≡ true → run_from (done + 1) q left ws ≡ ordered_from (done + 1) q left ws)
         → turn done r (event_of k a b v) (decided r (event_of k a b v)) (λ q. run_from (done + 1) q left ws)
         ≡ turn done r (event_of k a b v) (decided r (event_of k a b v)) (λ q. ordered_from (done + 1) q left ws)
-    go (No n) e ih = rw e
-    go (Go p) e ih = rw e (ih (applied_of r (event_of k a b v) p) (sound_stays r (event_of k a b v) p s e))
+    go (Err n) e ih = rw e
+    go (Ok p) e ih = rw e (ih (applied_of r (event_of k a b v) p) (sound_stays r (event_of k a b v) p s e))
 
 pub ordered : (r : Rack) (allowance : ℕ) (ws : List ℕ) → sound_of r ≡ true → run_of r allowance ws ≡ ordered_from 0 r allowance ws
 ordered r allowance ws s = run_from_lem r allowance ws ∙ from_ordered 0 r allowance ws s

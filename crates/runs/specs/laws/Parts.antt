@@ -1,8 +1,7 @@
 -- A schedule in two parts is the schedule whole, and every rack of a run is sound.
-use Rattle.std.specs.Prelude.{ℕ, zero, suc, ◌+◌, ◌*◌, ◌≡◌, refl, true, List, [], ◌∷◌, drop}
+use Rattle.std.specs.Prelude.{ℕ, zero, suc, ◌+◌, ◌*◌, ◌≡◌, refl, true, List, [], ◌∷◌, drop, Err, Ok}
 use Rattle.std.proofs.Common.{ap, sym, ◌∙◌, arith}
-use Rattle.method.specs.declared.Decision.{Decision}
-use Rattle.method.specs.declared.Decision.TheVariants.{No, Go}
+use Rattle.method.specs.Decision.{Decision}
 use Rattle.rack.specs.declared.Rack.{Rack}
 use Rattle.rack.specs.declared.Ran.{Ran}
 use Rattle.rack.specs.Sound.{sound_of}
@@ -25,8 +24,8 @@ from_stays done r (suc left) (k ∷ a ∷ b ∷ v ∷ ws) s = go (decided r (eve
   where
     go : (o : Decision) → decided r (event_of k a b v) ≡ o → ((q : Rack) → sound_of q ≡ true → sound_of (run_from (done + 1) q left ws).rack ≡ true)
         → sound_of (turn done r (event_of k a b v) o (λ q. run_from (done + 1) q left ws)).rack ≡ true
-    go (No n) e ih = s
-    go (Go p) e ih = ih (applied_of r (event_of k a b v) p) (sound_stays r (event_of k a b v) p s e)
+    go (Err n) e ih = s
+    go (Ok p) e ih = ih (applied_of r (event_of k a b v) p) (sound_stays r (event_of k a b v) p s e)
 
 pub run_stays : (r : Rack) (allowance : ℕ) (ws : List ℕ) → sound_of r ≡ true → sound_of (run_of r allowance ws).rack ≡ true
 unfolding run_of
@@ -45,8 +44,8 @@ from_later n done r (suc left) (k ∷ a ∷ b ∷ v ∷ ws) = go (decided r (eve
   where
     go : (o : Decision) → ((q : Rack) → run_from (n + (done + 1)) q left ws ≡ later n (run_from (done + 1) q left ws))
         → turn (n + done) r (event_of k a b v) o (λ q. run_from (n + done + 1) q left ws) ≡ later n (turn done r (event_of k a b v) o (λ q. run_from (done + 1) q left ws))
-    go (No x) ih = refl
-    go (Go p) ih =
+    go (Err x) ih = refl
+    go (Ok p) ih =
         let e : n + done + 1 ≡ n + (done + 1) = omega arith in
         ap (λ (d : ℕ). run_from d (applied_of r (event_of k a b v) p) left ws) e ∙ ih (applied_of r (event_of k a b v) p)
 

@@ -1,5 +1,5 @@
 -- A sound rack stays sound.
-use Rattle.std.specs.Prelude.{ℕ, zero, suc, ◌+◌, ◌≤◌, ◌<◌, ◌≡◌, refl, Bool, true, false, List, [], ◌∷◌, ltb, eqb, get_or, set, length}
+use Rattle.std.specs.Prelude.{ℕ, zero, suc, ◌+◌, ◌≤◌, ◌<◌, ◌≡◌, refl, Bool, true, false, List, [], ◌∷◌, ltb, eqb, get_or, set, length, Ok}
 use Rattle.std.proofs.Common.{ap, arith, get_or-set_same, get_or-set_other, ltb-true, ltb-false, eqb-true}
 use Rattle.std.proofs.Math.ListN.{get_or-eq_default}
 use Rattle.std.proofs.Math.Seq.{set_out}
@@ -16,7 +16,6 @@ use Rattle.rack.specs.declared.Rack.{Rack}
 use Rattle.stamps.specs.Stamp.{fresh_pair}
 use Rattle.method.specs.declared.Event.{Event}
 use Rattle.method.specs.declared.Plan.{Plan}
-use Rattle.method.specs.declared.Decision.TheVariants.{Go}
 use Rattle.method.specs.Plan.{message_of}
 use Rattle.rack.specs.Places.{slot_limit, empty, full, idle, pair_place, held_in, free_at, sent_of}
 use Rattle.rack.specs.Sound.{pair_fits, message_fits, held_fits, work_fits, owes, owed_by, owed, sound_of, owed_in}
@@ -108,7 +107,7 @@ entries_stay : (r : Rack) (e : Event) (p : Plan) → Decided r e p → r.count +
 entries_stay r e p d =
     omega (arith, d.entries, applied_owed r e p, owed_in_lem r, owed_store r.settings.clients (looked_client r e) r.parties p.party d.looked.client)
 
-pub stays : (r : Rack) (e : Event) (p : Plan) → sound_of r ≡ true → decided r e ≡ Go p → Sound (applied_of r e p)
+pub stays : (r : Rack) (e : Event) (p : Plan) → sound_of r ≡ true → decided r e ≡ Ok p → Sound (applied_of r e p)
 unfolding applied_of
 stays r e p h g =
     let z : Settings = r.settings in
@@ -124,5 +123,5 @@ stays r e p h g =
       entries = entries_stay r e p d;
     }
 
-pub sound_stays : (r : Rack) (e : Event) (p : Plan) → sound_of r ≡ true → decided r e ≡ Go p → sound_of (applied_of r e p) ≡ true
+pub sound_stays : (r : Rack) (e : Event) (p : Plan) → sound_of r ≡ true → decided r e ≡ Ok p → sound_of (applied_of r e p) ≡ true
 sound_stays r e p h d = of_sound (applied_of r e p) (stays r e p h d)

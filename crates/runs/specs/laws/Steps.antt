@@ -1,10 +1,9 @@
 -- A schedule, an event at a time: the events done are the definition's steps, and what is refused changes nothing.
-use Rattle.std.specs.Prelude.{ℕ, zero, suc, ◌+◌, ◌-◌, ◌*◌, ◌/◌, ◌≤◌, ◌<◌, ◌≡◌, refl, ◌≢◌, false, List, [], ◌∷◌, get_or, drop, length}
+use Rattle.std.specs.Prelude.{ℕ, zero, suc, ◌+◌, ◌-◌, ◌*◌, ◌/◌, ◌≤◌, ◌<◌, ◌≡◌, refl, ◌≢◌, false, List, [], ◌∷◌, get_or, drop, length, Err, Ok}
 use Rattle.std.proofs.Common.{ap, sym, ◌∙◌, arith, length-drop, drop-cons}
 use Rattle.method.specs.declared.Event.{Event}
 use Rattle.method.specs.declared.Plan.{Plan}
-use Rattle.method.specs.declared.Decision.{Decision}
-use Rattle.method.specs.declared.Decision.TheVariants.{No, Go}
+use Rattle.method.specs.Decision.{Decision}
 use Rattle.rack.specs.declared.Rack.{Rack}
 use Rattle.rack.specs.declared.Ran.{Ran}
 use Rattle.rack.specs.Sound.{sound_of}
@@ -69,13 +68,13 @@ pub ended : (done : ℕ) (r : Rack) (left i : ℕ) (ws : List ℕ) → length ws
 ended done r left i ws h = too_few done r left (drop (4 * i) ws) (rw (length-drop (4 * i) ws) (omega arith))
 
 -- a refused event changes nothing
-pub refused : (done left : ℕ) (r : Rack) (k a b v n : ℕ) (ws : List ℕ) → decided r (event_of k a b v) ≡ No n
+pub refused : (done left : ℕ) (r : Rack) (k a b v n : ℕ) (ws : List ℕ) → decided r (event_of k a b v) ≡ Err n
     → run_from done r (suc left) (k ∷ a ∷ b ∷ v ∷ ws) ≡ ran_of done n r
 unfolding turn
 refused done left r k a b v n ws h = one done left r k a b v ws ∙ rw h
 
 -- a done event leaves the rack after its plan, and the schedule goes on
-pub went : (done left : ℕ) (r : Rack) (k a b v : ℕ) (p : Plan) (ws : List ℕ) → decided r (event_of k a b v) ≡ Go p
+pub went : (done left : ℕ) (r : Rack) (k a b v : ℕ) (p : Plan) (ws : List ℕ) → decided r (event_of k a b v) ≡ Ok p
     → run_from done r (suc left) (k ∷ a ∷ b ∷ v ∷ ws) ≡ run_from (done + 1) (applied_of r (event_of k a b v) p) left ws
 unfolding turn
 went done left r k a b v p ws h = one done left r k a b v ws ∙ rw h
@@ -106,8 +105,8 @@ steps done r (suc left) (k ∷ a ∷ b ∷ v ∷ ws) = go (decided r (event_of k
   where
     go : (o : Decision) → decided r (event_of k a b v) ≡ o → ((q : Rack) → Stepped (done + 1) q left ws (run_from (done + 1) q left ws))
         → Stepped done r (suc left) (k ∷ a ∷ b ∷ v ∷ ws) (turn done r (event_of k a b v) o (λ q. run_from (done + 1) q left ws))
-    go (No n) e ih = none_done done r (suc left) n (k ∷ a ∷ b ∷ v ∷ ws)
-    go (Go p) e ih =
+    go (Err n) e ih = none_done done r (suc left) n (k ∷ a ∷ b ∷ v ∷ ws)
+    go (Ok p) e ih =
         let x : Rack = applied_of r (event_of k a b v) p in
         let q : Ran = run_from (done + 1) x left ws in
         let s : Stepped (done + 1) x left ws q = ih x in
@@ -187,8 +186,8 @@ parts_on (suc m) n done r q (k ∷ a ∷ b ∷ v ∷ ws) h = go (decided r (even
     go : (o : Decision) → decided r (event_of k a b v) ≡ o → turn done r (event_of k a b v) o (λ x. run_from (done + 1) x m ws) ≡ ran_of (done + suc m) 0 q
         → ((x : Rack) → run_from (done + 1) x m ws ≡ ran_of (done + 1 + m) 0 q → run_from (done + 1) x (m + n) ws ≡ run_from (done + 1 + m) q n (drop (4 * m) ws))
         → run_from done r (suc m + n) (k ∷ a ∷ b ∷ v ∷ ws) ≡ run_from (done + suc m) q n (drop (4 * suc m) (k ∷ a ∷ b ∷ v ∷ ws))
-    go (No x) e h ih = absurd (let z : done ≡ done + suc m = ap (λ (x : Ran). x.done) h in omega arith)
-    go (Go p) e h ih =
+    go (Err x) e h ih = absurd (let z : done ≡ done + suc m = ap (λ (x : Ran). x.done) h in omega arith)
+    go (Ok p) e h ih =
         let s : suc m + n ≡ suc (m + n) = omega arith in
         let d : done + suc m ≡ done + 1 + m = omega arith in
         let f : 4 * suc m ≡ suc (suc (suc (suc (4 * m)))) = omega arith in
@@ -213,5 +212,5 @@ parts_off (suc m) n done r (k ∷ a ∷ b ∷ v ∷ ws) h =
     go : (o : Decision) → decided r (event_of k a b v) ≡ o → (turn done r (event_of k a b v) o (λ x. run_from (done + 1) x m ws)).done < done + suc m
         → ((x : Rack) → (run_from (done + 1) x m ws).done < done + 1 + m → run_from (done + 1) x (m + n) ws ≡ run_from (done + 1) x m ws)
         → turn done r (event_of k a b v) o (λ x. run_from (done + 1) x (m + n) ws) ≡ turn done r (event_of k a b v) o (λ x. run_from (done + 1) x m ws)
-    go (No x) e h ih = refl
-    go (Go p) e h ih = ih (applied_of r (event_of k a b v) p) (omega arith)
+    go (Err x) e h ih = refl
+    go (Ok p) e h ih = ih (applied_of r (event_of k a b v) p) (omega arith)

@@ -1,20 +1,12 @@
 -- `script::put_event` meets its contract. Assumes nothing.
-use Rattle.std.proofs.Common.{arith, length-set, ◌+◌, suc, ◌≡◌}
+use Rattle.std.proofs.Common.{sym, ◌∙◌, arith, ◌+◌, ◌-◌, ◌≡◌, ◌∷◌, [], take, List, ℕ}
+use Rattle.std.proofs.lemmas.List.{append_assoc, drop-drop}
+use Rattle.std.proofs.lemmas.List.Edits.{sets-eq}
 use Rattle.script.proofs.put_event.Goals as goal
-
-pub bounds-words-at-2 : goal.bounds-words-at-2
-bounds-words-at-2 c = simp length-set (omega arith)
-
-pub bounds-words-at-3 : goal.bounds-words-at-3
-bounds-words-at-3 c = simp length-set (omega arith)
-
-pub bounds-words-at-4 : goal.bounds-words-at-4
-bounds-words-at-4 c = simp length-set (omega arith)
 
 pub returns : goal.returns
 returns c =
-    let at = c.args.at in
-    let one : at + 1 ≡ suc at = omega arith in
-    let two : at + 2 ≡ suc (suc at) = omega arith in
-    let three : at + 3 ≡ suc (suc (suc at)) = omega arith in
-    rw (one, two, three)
+    let a = c.args in
+    let four : a.at + 4 - a.at ≡ 4 = omega arith in
+    let event : List ℕ = a.kind ∷ a.a ∷ a.b ∷ a.value ∷ [] in
+    rw (c.copy_from_slice.ensures.after, four, drop-drop 4 a.at a.words.now) (sym (sets-eq event a.words.now a.at (omega arith) ∙ append_assoc (take a.at a.words.now) event _))

@@ -1,11 +1,11 @@
 -- No other outcome fits a call: two that both meet its contract mean the same and are the same, and wrong ones do not meet it.
-use Rattle.std.specs.Prelude.{ℕ, List, [], ◌∷◌, ◌≡◌}
+use Rattle.std.specs.Prelude.{ℕ, List, [], ◌∷◌, ◌≡◌, Ok, Err}
 use Rattle.std.proofs.Common.{ap, ◌∙◌, sym, arith}
 use Rattle.number.specs.Number.{taken, last_of, value_of, number_of, number_at, and_then}
-use Rattle.script.specs.declared.Words.{Words}
-use Rattle.script.specs.declared.Words.TheVariants.{Are, Refused}
+use Rattle.refusal.specs.declared.Refusal.TheVariants.{UnknownCode}
+use Rattle.refusal.specs.Number.{paper_number}
 use Rattle.script.specs.declared.Filled.{Filled}
-use Rattle.script.specs.Script.{last_at, head_of, cell_at, fields_at, event_at, script_of, Fills}
+use Rattle.script.specs.Script.{Words, last_at, head_of, cell_at, fields_at, event_at, script_of, Fills}
 use Rattle.script.specs.Answers.{refusal_of, place_in, four_in}
 use Rattle.script.specs.Examples.{bench}
 use Rattle.script.specs.laws.Sheet.{bench_head, bench_write, bench_count, bench_place, empty_script, cut_script, unknown_code}
@@ -20,11 +20,14 @@ pub one_head : (s : List ℕ) (r r' : Words) → r ≡ head_of s → r' ≡ head
 one_head s r r' p q = alike r r' (p ∙ sym q)
 
 -- clients and cells are not replicas, and the first event stands after the allowance
-pub not_other_order : (r : Words) → r ≡ head_of bench → r ≡ Are 1 1 3 100 4 → ⊥
-not_other_order r p q = let z : ◌≡◌ {A = ℕ} 3 1 = cc bench_head in omega arith
+pub not_other_order : (r : Words) → r ≡ head_of bench → r ≡ Ok (1, 1, 3, 100, 4) → ⊥
+unfolding four_in
+not_other_order r p q = let e : ◌≡◌ {A = List ℕ} (3 ∷ 1 ∷ 1 ∷ 100 ∷ []) (1 ∷ 1 ∷ 3 ∷ 100 ∷ []) = ap four_in (sym bench_head ∙ sym p ∙ q) in
+    let z : ◌≡◌ {A = ℕ} 3 1 = cc in omega arith
 
-pub not_at_allowance : (r : Words) → r ≡ head_of bench → r ≡ Are 3 1 1 100 3 → ⊥
-not_at_allowance r p q = let z : ◌≡◌ {A = ℕ} 4 3 = cc bench_head in omega arith
+pub not_at_allowance : (r : Words) → r ≡ head_of bench → r ≡ Ok (3, 1, 1, 100, 3) → ⊥
+unfolding place_in
+not_at_allowance r p q = let z : ◌≡◌ {A = ℕ} 4 3 = ap place_in (sym bench_head ∙ sym p ∙ q) in omega arith
 
 -- ---- read_event
 
@@ -32,11 +35,14 @@ pub one_event : (s : List ℕ) (at : ℕ) (r r' : Words) → r ≡ event_at s at
 one_event s at r r' p q = alike r r' (p ∙ sym q)
 
 -- a start of a write has its value, as it is written in a record
-pub not_without_value : (r : Words) → r ≡ event_at bench 4 → r ≡ Are 1 0 0 0 7 → ⊥
-not_without_value r p q = let z : ◌≡◌ {A = ℕ} 8 7 = cc bench_write in omega arith
+pub not_without_value : (r : Words) → r ≡ event_at bench 4 → r ≡ Ok (1, 0, 0, 0, 7) → ⊥
+unfolding place_in
+not_without_value r p q = let z : ◌≡◌ {A = ℕ} 8 7 = ap place_in (sym bench_write ∙ sym p ∙ q) in omega arith
 
-pub not_signed : (r : Words) → r ≡ event_at bench 4 → r ≡ Are 1 0 0 9 8 → ⊥
-not_signed r p q = let z : ◌≡◌ {A = ℕ} 18 9 = cc bench_write in omega arith
+pub not_signed : (r : Words) → r ≡ event_at bench 4 → r ≡ Ok (1, 0, 0, 9, 8) → ⊥
+unfolding four_in
+not_signed r p q = let e : ◌≡◌ {A = List ℕ} (1 ∷ 0 ∷ 0 ∷ 18 ∷ []) (1 ∷ 0 ∷ 0 ∷ 9 ∷ []) = ap four_in (sym bench_write ∙ sym p ∙ q) in
+    let z : ◌≡◌ {A = ℕ} 18 9 = cc in omega arith
 
 -- ---- check
 
@@ -44,15 +50,16 @@ pub one_check : (s : List ℕ) (r r' : Words) → r ≡ script_of s → r' ≡ s
 one_check s r r' p q = alike r r' (p ∙ sym q)
 
 -- no bytes are no script, and a script that ends inside an event has no events before it
-pub not_empty : (r : Words) → r ≡ script_of [] → r ≡ Are 0 0 0 0 0 → ⊥
+pub not_empty : (r : Words) → r ≡ script_of [] → r ≡ Ok (0, 0, 0, 0, 0) → ⊥
 not_empty r p q = let z : ◌≡◌ {A = ℕ} 0 1 = cc empty_script in omega arith
 
-pub not_cut : (r : Words) → r ≡ script_of (0x03 ∷ 0x01 ∷ 0x01 ∷ 0x64 ∷ 0x01 ∷ 0x00 ∷ []) → r ≡ Are 3 1 1 100 4 → ⊥
+pub not_cut : (r : Words) → r ≡ script_of (0x03 ∷ 0x01 ∷ 0x01 ∷ 0x64 ∷ 0x01 ∷ 0x00 ∷ []) → r ≡ Ok (3, 1, 1, 100, 4) → ⊥
 not_cut r p q = let z : ◌≡◌ {A = ℕ} 0 1 = cc cut_script in omega arith
 
 -- nor is an unknown code refused at its script's begin
-pub not_at_begin : (r : Words) → r ≡ script_of (0x03 ∷ 0x01 ∷ 0x01 ∷ 0x64 ∷ 0x02 ∷ 0x00 ∷ 0x09 ∷ 0x80 ∷ []) → r ≡ Refused 15 0 → ⊥
-not_at_begin r p q = let z : ◌≡◌ {A = ℕ} 6 0 = cc unknown_code in omega arith
+pub not_at_begin : (r : Words) → r ≡ script_of (0x03 ∷ 0x01 ∷ 0x01 ∷ 0x64 ∷ 0x02 ∷ 0x00 ∷ 0x09 ∷ 0x80 ∷ []) → r ≡ Err (UnknownCode, 0) → ⊥
+unfolding place_in
+not_at_begin r p q = let z : ◌≡◌ {A = ℕ} 6 0 = ap place_in (sym unknown_code ∙ sym p ∙ q) in omega arith
 
 -- ---- fill
 
@@ -75,8 +82,8 @@ not_back r e p q = let z : ◌≡◌ {A = ℕ} 8 12 = sym q ∙ p.next ∙ bench
 -- client 2 writes 9 to cell 5: the four numbers, and place 4 after them; an unknown code: 15 at byte 6, and no numbers
 pub says_words : (r : Words) → r ≡ event_at (0x01 ∷ 0x02 ∷ 0x05 ∷ 0x12 ∷ []) 0 → (refusal_of r ≡ 0) × (place_in r ≡ 4) × (four_in r ≡ 1 ∷ 2 ∷ 5 ∷ 18 ∷ [])
 unfolding event_at fields_at cell_at last_at and_then number_at number_of taken last_of value_of refusal_of place_in four_in
-says_words r p = let e : r ≡ Are 1 2 5 18 4 = p in (ap refusal_of e, ap place_in e, ap four_in e)
+says_words r p = let e : r ≡ Ok (1, 2, 5, 18, 4) = p in (ap refusal_of e, ap place_in e, ap four_in e)
 
 pub says_15 : (r : Words) → r ≡ script_of (0x03 ∷ 0x01 ∷ 0x01 ∷ 0x64 ∷ 0x02 ∷ 0x00 ∷ 0x09 ∷ 0x80 ∷ []) → (refusal_of r ≡ 15) × (place_in r ≡ 6) × (four_in r ≡ [])
-unfolding refusal_of place_in four_in
-says_15 r p = let e : r ≡ Refused 15 6 = p ∙ unknown_code in (ap refusal_of e, ap place_in e, ap four_in e)
+unfolding refusal_of paper_number place_in four_in
+says_15 r p = let e : r ≡ Err (UnknownCode, 6) = p ∙ unknown_code in (ap refusal_of e, ap place_in e, ap four_in e)

@@ -8,7 +8,7 @@ use Rattle.number.specs.Value.{alternating_of, signed_of}
 use Rattle.number.specs.laws.Sheet.{of_127, of_128}
 use Rattle.record.specs.declared.Entry.{Entry}
 use Rattle.record.specs.Entry.{entry_bytes, up_to, fields_at, entry_at}
-use Rattle.record.specs.Record.{entries, fault_after, standing_after, before, enter, held_from, bytes_held, all_of, bytes_of}
+use Rattle.record.specs.Record.{entries, fault_after, standing_after, before, unless_refused, enter, held_from, bytes_held, all_of, bytes_of}
 use Rattle.record.specs.laws.Sheet.{sheet_reads}
 use Rattle.law.specs.Operation.{note, notes, operations}
 use Rattle.law.specs.Part.{part_from, part_of}
@@ -54,7 +54,7 @@ module _ {bytes : List ℕ} {es : List Entry} (held : bytes_held bytes ≡ entri
   unlawful_line p q t = says (unlawful 2) (es, (taken_for_lem, lowest_2 es p q (by_no (dec_lawful (operations (part_of 2 es))) t)))
 
 pub sheet : Sheet
-unfolding groups_of alternating_of bytes_held held_from all_of distinct distinct_from all_bytes operations notes dec_lawful entry_bytes enter before fault_after standing_after entry_at
+unfolding groups_of alternating_of bytes_held held_from all_of distinct distinct_from all_bytes operations notes dec_lawful entry_bytes enter unless_refused before fault_after standing_after entry_at
     fields_at up_to and_then number_at number_of taken last_of value_of signed_of repeats asked_among asks_for note part_of part_from set_bits has_replica with_replica majority asks_enough
     keeps_enough every_replica within members_from ones count_from first_from stamp_less raised start_of ask_of keep_of current chosen keeps_of holds tell_counts tell_in tell_at
     tell_of last_entry kept_counts kept_in kept_at kept_of deliver_in deliver_of of_slot plan_of is_unknown is_start names_slot names_client is_resend is_delivery slot_empty client_stopped

@@ -1,23 +1,14 @@
-use Rattle.std.proofs.Common.{arith, rules}
-use Rattle.text.specs.laws.Printing.{printed_length}
-use Rattle.show.proofs.Laws.{no_entry, next_entry, all_entries}
+use Rattle.std.proofs.Common.{sym, ◌∙◌}
+use Rattle.rack.specs.Places.{record_of}
+use Rattle.show.proofs.Laws.{next_entry, last_entry}
 use Rattle.show.proofs.put_entries.Goals as goal
 
-pub loop-i-init : goal.loop-i-init
-loop-i-init c = (search rules, no_entry c.args.lines)
+pub loop-line-init : goal.loop-line-init
+unfolding record_of
+loop-line-init c = rw (c.into_iter-line-iterator.ensures.into_iter_gives, c.take-line-items.ensures.count, c.take-line-items.ensures.source, c.iter.ensures.rest)
 
-pub loop-i-preserved : goal.loop-i-preserved
-loop-i-preserved c = (
-  search rules,
-  next_entry c.args.lines _ _
-      (omega (arith, c.loop-i-test.true, c.entries_in-n.ensures))
-      c.loop-i.invariant.1 c.put_entry-next.ensures,
-)
-
-pub shape_of-out : goal.shape_of-out
-shape_of-out c = printed_length c.loop-i.invariant.1
+pub loop-line-preserved : goal.loop-line-preserved
+loop-line-preserved c = next_entry _ _ _ _ _ _ _ _ c.put_entry.ensures c.in-Some.ensures.steps.0 c.in-Some.ensures.steps.1 ∙ c.loop-line.invariant
 
 pub returns : goal.returns
-returns c =
-    all_entries c.args.lines _ _ (omega arith) c.loop-i.invariant.0
-    (omega (arith, c.loop-i-test.false, c.entries_in-n.ensures)) c.loop-i.invariant.1
+returns c = sym (last_entry _ _ _ _ (λ h. (c.in-None.ensures.steps h).0)) ∙ c.loop-line.invariant

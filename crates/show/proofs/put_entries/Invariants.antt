@@ -1,12 +1,13 @@
--- `show::put_entries` meets its contract. Assumes nothing.
-use Rattle.std.proofs.Common.{◌-◌, ◌≤◌, min, map, take}
-use Rattle.text.specs.Text.{hex_text, Printed}
-use Rattle.record.specs.Record.{entry_limit, bytes_of}
+-- `show::put_entries` meets its contract. The loop's invariant: with the bytes of the entries that are left, the page is as it is to be. Assumes nothing.
+use Rattle.std.proofs.Common.{◌≡◌, map, take}
+use Rattle.text.specs.Pages.{with_text}
+use Rattle.record.specs.Record.{bytes_of}
 use Rattle.rack.specs.declared.Line.{Line}
+use Rattle.rack.specs.Places.{record_of}
+use Rattle.show.specs.laws.Forms.{in_form}
 use Rattle.show.proofs.put_entries.Given as goal
 
-abbrev pub invariant-loop-i : goal.invariant-loop-i
-invariant-loop-i l = (l.i ≤ min l.count entry_limit) × Printed l.initial.out l.at (hex_text (bytes_of (map (λ (l : Line). l.entry) (take l.i l.lines)))) l.next l.out
-
-abbrev pub decreases-loop-i : goal.decreases-loop-i
-decreases-loop-i l = min l.count entry_limit - l.i
+abbrev pub invariant-loop-line : goal.invariant-loop-line
+invariant-loop-line l =
+    with_text l.page (in_form l.form (bytes_of (map (λ (x : Line). x.entry) (take l.line-iterator.n l.line-iterator.iter.rest.now))))
+    ≡ with_text l.initial.page (in_form l.form (bytes_of (record_of l.rack)))

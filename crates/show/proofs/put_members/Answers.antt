@@ -1,27 +1,17 @@
-use Rattle.std.proofs.Common.{rules, eq-eqb, ne_eqb}
+use Rattle.std.proofs.Common.{◌≡◌, ne_eqb, arith, sym, ◌∙◌}
+use Rattle.std.proofs.lemmas.Grind.{common_steps}
 use Rattle.quorum.specs.Sets.{set_bits}
-use Rattle.text.specs.laws.Printing.{printed_length}
-use Rattle.show.proofs.Laws.{each_none, each_next, each_all}
+use Rattle.text.specs.laws.Paging.{with_nothing, with_both}
+use Rattle.show.proofs.Laws.{each_next}
+use Rattle.show.proofs.put_members.Goals.{then-has, else-has}
 use Rattle.show.proofs.put_members.Goals as goal
 
-pub returns-then-set-eq0 : goal.returns-then-set-eq0
-returns-then-set-eq0 c = rw (eq-eqb _ 0 c.if-set-eq0.true) c.put_words.ensures
-
-pub loop-k-init : goal.loop-k-init
-unfolding set_bits
-loop-k-init c = (search rules, each_none _)
-
 pub loop-k-preserved : goal.loop-k-preserved
-unfolding set_bits
-loop-k-preserved c = (search rules, each_next _ _ c.loop-k.invariant.1 c.put_member-next.ensures)
-
-pub loop-k-smaller : goal.loop-k-smaller
-unfolding set_bits
-loop-k-smaller c = search rules
-
-pub shape_of-out : goal.shape_of-out
-shape_of-out c = printed_length c.loop-k.invariant.1
+loop-k-preserved c = elim c.if-has.branch [
+  | then-has w ↦ let yes = sym c.has.ensures ∙ w.if-has.true in rw (each_next, ← with_both, yes) (grind (arith, common_steps))
+  | else-has w ↦ let no = sym c.has.ensures ∙ w.if-has.false in rw (each_next, ← with_both, no, with_nothing) (grind (arith, common_steps))
+]
 
 pub returns : goal.returns
 unfolding set_bits
-returns c = rw (ne_eqb _ 0 c.if-set-eq0.false) (each_all _ _ _ c.loop-k.invariant.0 c.loop-k-test.false c.loop-k.invariant.1)
+returns c = let all : c.loop-k.k ≡ set_bits = omega arith in rw (ne_eqb _ 0 c.if-set-eq0.false, ← all) c.loop-k.invariant

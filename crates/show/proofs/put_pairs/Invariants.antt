@@ -1,14 +1,10 @@
--- `show::put_pairs` meets its contract. Assumes nothing.
-use Rattle.std.proofs.Common.{◌-◌, ◌≤◌, ◌++◌, get_or}
-use Rattle.text.specs.Text.{Printed}
-use Rattle.stamps.specs.Stamp.{fresh_pair}
-use Rattle.rack.specs.Places.{pair_place}
+-- `show::put_pairs` meets its contract. The loop's invariant: the pairs for the cells before the next are written. Assumes nothing.
+use Rattle.std.proofs.Common.{◌≡◌, ◌++◌}
+use Rattle.text.specs.Pages.{with_text}
+use Rattle.rack.specs.Places.{pair_at}
 use Rattle.lines.specs.Words.{space}
 use Rattle.lines.specs.Lines.{each_below, pair_text}
 use Rattle.show.proofs.put_pairs.Given as goal
 
 abbrev pub invariant-loop-x : goal.invariant-loop-x
-invariant-loop-x l = (l.x ≤ l.cells) × Printed l.initial.out l.at (each_below l.x (λ y. space ++ pair_text (get_or l.pairs (pair_place l.k.0 y) fresh_pair))) l.next l.out
-
-abbrev pub decreases-loop-x : goal.decreases-loop-x
-decreases-loop-x l = l.cells - l.x
+invariant-loop-x l = l.page ≡ with_text l.initial.page (each_below l.x (λ y. space ++ pair_text (pair_at l.rack l.k.0 y)))

@@ -6,13 +6,13 @@ pub judge_paired-requires : goal.judge_paired-requires
 judge_paired-requires c =
     fit_all _ _ _ _ _ _ c.pair_up.ensures
     (λ i. (c.type_inv.s i).fits) _
-    c.in-All.is
+    c.in-Ok.is
 
-pub returns-in-Refused : goal.returns-in-Refused
-returns-in-Refused c = judges_fault _ _ _ _ _ _ c.pair_up.ensures _ _ c.in-Refused.is
+pub returns-in-Err : goal.returns-in-Err
+returns-in-Err c = rw c.number.ensures (judges_fault _ _ _ _ _ _ c.pair_up.ensures _ _ c.in-Err.is)
 
-pub returns-in-All : goal.returns-in-All
-returns-in-All c =
+pub returns-in-Ok : goal.returns-in-Ok
+returns-in-Ok c =
     judges_all _ _ _ _ _ _ c.pair_up.ensures
     (λ i. (c.type_inv.s i).fits) _
-    c.in-All.is c.judge_paired.result c.judge_paired.ensures
+    c.in-Ok.is c.judge_paired.result c.judge_paired.ensures

@@ -6,8 +6,7 @@ use Rattle.verdict.proofs.settle.Goals as goal
 pub take_ends-requires : goal.take_ends-requires
 take_ends-requires c = (
   c.requires,
-  tally_none_yet _ _ _ c.requires.fit.few
-      c.own_numbers.ensures,
+  rw c.own_numbers.ensures.1 (tally_none_yet _ _ _ c.requires.fit.few c.own_numbers.ensures.0),
 )
 
 pub order-requires : goal.order-requires
@@ -19,6 +18,8 @@ order-requires c = (
 )
 
 pub returns : goal.returns
-returns c =
-    settles _ _ _ _ _ _ _ _ c.requires.fresh
-    c.take_ends.ensures c.order.ensures c.lowest.ensures
+returns c = (
+  settles _ _ _ _ _ _ _ _ c.requires.fresh
+      c.take_ends.ensures c.order.ensures c.lowest.ensures.0,
+  c.lowest.ensures.1,
+)

@@ -1,10 +1,6 @@
--- `verdict::sweep` meets its contract. The invariant: the places before p are swept. The measure is how many follow. Assumes nothing.
-use Rattle.std.proofs.Common.{◌-◌, ◌≤◌}
-use Rattle.clusters.specs.laws.Arrays.{arrays, Sweeping}
+-- `verdict::sweep` meets its contract. The invariant: the places before p are swept. Assumes nothing.
+use Rattle.clusters.specs.laws.Arrays.{Sweeping}
 use Rattle.verdict.proofs.sweep.Given as goal
 
 abbrev pub invariant-loop-p : goal.invariant-loop-p
-invariant-loop-p l = (l.p ≤ l.n) × Sweeping (arrays l.kinds l.cells l.values l.starts) l.n l.least l.most l.initial.reach l.initial.bad l.p l.reach l.bad
-
-abbrev pub decreases-loop-p : goal.decreases-loop-p
-decreases-loop-p l = l.n - l.p
+invariant-loop-p l = Sweeping l.entries l.n l.zones.least l.zones.most l.initial.cells.reach l.initial.cells.bad l.p l.cells.reach l.cells.bad

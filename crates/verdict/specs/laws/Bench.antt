@@ -8,7 +8,7 @@ use Rattle.record.specs.declared.Cell.{Cell}
 use Rattle.record.specs.declared.Entry.{Entry}
 use Rattle.number.specs.Below.{byte_limit, Bytes}
 use Rattle.record.specs.Entry.{up_to, fields_at, entry_at}
-use Rattle.record.specs.Record.{entries, fault_after, standing_after, before, enter, held_from, bytes_held}
+use Rattle.record.specs.Record.{entries, fault_after, standing_after, before, unless_refused, enter, held_from, bytes_held}
 use Rattle.record.specs.Examples.{sheet_bytes}
 use Rattle.record.specs.laws.Sheet.{sheet_reads}
 use Rattle.law.specs.Operation.{operations}
@@ -22,6 +22,8 @@ use Rattle.verdict.specs.declared.Verdict.{Verdict}
 use Rattle.verdict.specs.declared.Verdict.TheVariants.{Lawful as says_lawful, Unlawful as says_unlawful, Refused as says_refused}
 use Rattle.verdict.specs.Verdict.{asks_for, asked_among, repeats, distinct_from, distinct, taken_for, LowestCell, Judges}
 use Rattle.verdict.specs.Answers.{case_of, refusal_in, entry_in, cell_in}
+use Rattle.refusal.specs.declared.Refusal.TheVariants.{AskedAgain}
+use Rattle.refusal.specs.Number.{paper_number}
 use Rattle.verdict.specs.laws.OnlyOne.{one_verdict, refused_exactly}
 use Rattle.verdict.specs.laws.Sheet.{twice}
 use Rattle.verdict.specs.Examples.{stale}
@@ -77,7 +79,7 @@ twelve_verdict = no_other sheet_bytes refl says_lawful twelve_judged
 -- ---- with last byte 00: unlawful cell 2
 
 taken_stale : taken_for stale ≡ entries bad
-unfolding taken_for distinct distinct_from repeats asked_among asks_for bytes_held held_from enter before fault_after standing_after entry_at fields_at and_then up_to number_at number_of value_of
+unfolding taken_for distinct distinct_from repeats asked_among asks_for bytes_held held_from enter unless_refused before fault_after standing_after entry_at fields_at and_then up_to number_at number_of value_of
     last_of taken alternating_of signed_of
 taken_stale = refl
 
@@ -116,7 +118,7 @@ unfolding case_of refusal_in entry_in cell_in
 says_cell_2 v j = let e = stale_verdict v j in (ap case_of e, ap refusal_in e, ap entry_in e, ap cell_in e)
 
 pub says_29 : (v : Verdict) → Judges (taken_for (sheet_bytes ++ (0x01 ∷ 0x00 ∷ 0x02 ∷ 0x0A ∷ []))) v → (case_of v ≡ 2) × (refusal_in v ≡ 29) × (entry_in v ≡ 4) × (cell_in v ≡ 0)
-unfolding case_of refusal_in entry_in cell_in
+unfolding case_of refusal_in entry_in cell_in paper_number
 says_29 v j =
-    let e : v ≡ says_refused 29 4 = (refused_exactly (taken_for (sheet_bytes ++ (0x01 ∷ 0x00 ∷ 0x02 ∷ 0x0A ∷ []))) v j 29 4).1 twice in
+    let e : v ≡ says_refused 29 4 = (refused_exactly (taken_for (sheet_bytes ++ (0x01 ∷ 0x00 ∷ 0x02 ∷ 0x0A ∷ []))) v j 29 4).1 (AskedAgain, (twice, refl)) in
     (ap case_of e, ap refusal_in e, ap entry_in e, ap cell_in e)

@@ -1,14 +1,15 @@
 -- What the judge's parts say of the operations that the arrays hold, and that this is the verdict.
-use Rattle.std.specs.Prelude.{ℕ, ◌≤◌, ◌<◌, length, get_or}
+use Rattle.std.specs.Prelude.{ℕ, ◌≤◌, ◌<◌, length, get_or, Ok, Err}
 use Rattle.std.proofs.Math.Path.{◌≡◌, refl, subst}
-use Rattle.std.proofs.Common.{sym, ◌∙◌, arith}
+use Rattle.std.proofs.Common.{sym, ap, ◌∙◌, arith}
 use mathlib.Core.List.{List}
 use Rattle.number.specs.Below.{byte_limit}
 use Rattle.record.specs.Entry.{cell_limit}
 use Rattle.record.specs.declared.Entry.{Entry}
-use Rattle.record.specs.declared.Answer.{Answer}
-use Rattle.record.specs.declared.Answer.TheVariants.{All, Refused}
-use Rattle.record.specs.Record.{Held, entries, fault, bytes_held, survey_of}
+use Rattle.refusal.specs.declared.Refusal.{Refusal}
+use Rattle.refusal.specs.declared.Refusal.TheVariants.{AskedAgain}
+use Rattle.refusal.specs.Number.{paper_number}
+use Rattle.record.specs.Record.{Answer, Held, entries, fault, bytes_held, survey_of}
 use Rattle.record.specs.Legal.{Legal}
 use Rattle.law.specs.Operation.{Op, operations}
 use Rattle.law.specs.Order.{Lawful}
@@ -57,7 +58,8 @@ module _ (a : Arrays) (n : ℕ) (es : List Entry) (legal : Legal es) (count : le
 
   -- an entry asks again: 29, and the first such entry
   pub judges_again : (p : ℕ) → p < n → Again a.kinds a.cells a.values p → Fresh a p → Judges (distinct (entries es)) (says_refused 29 p)
-  judges_again p l k f = distinct_named a es p (all_shown a es legal held) (omega arith) k f
+  unfolding paper_number
+  judges_again p l k f = (AskedAgain, (distinct_named a es p (all_shown a es legal held) (omega arith) k f, refl))
 
   module _ (fresh : Fresh a n) (r : ℕ) (low : LowestOf (operations es) r) where
     taken : distinct (entries es) ≡ entries es
@@ -84,21 +86,21 @@ module _ (a : Arrays) (n : ℕ) (es : List Entry) (legal : Legal es) (count : le
 
 module _ (s : List ℕ) (kinds cells values starts : List ℕ) (r : Answer) (p : PairsUp s r kinds cells values starts) where
   -- a fault of the bytes is the verdict
-  pub judges_fault : (k n : ℕ) → r ≡ Refused k n → Judges (taken_for s) (says_refused k n)
+  pub judges_fault : (k : Refusal) (n : ℕ) → r ≡ Err (k, n) → Judges (taken_for s) (says_refused (paper_number k) n)
   unfolding taken_for distinct survey_of
-  judges_fault k n e = go (bytes_held s) (sym p.answer ∙ e)
+  judges_fault k n e = (k, (go (bytes_held s) (sym p.answer ∙ e), refl))
     where
-      go : (h : Held) → survey_of h ≡ Refused k n → distinct h ≡ fault k n
+      go : (h : Held) → survey_of h ≡ Err (k, n) → distinct h ≡ fault k n
       go (entries es) q = let z : ◌≡◌ {A = ℕ} 0 1 = cc in absurd (omega arith)
-      go (fault i j) q = let x : i ≡ k = cc in let y : j ≡ n = cc in cc
+      go (fault i j) q = let both : ◌≡◌ {A = Refusal × ℕ} (i, j) (k, n) = cc in ap (λ (x : Refusal × ℕ). fault x.0 x.1) both
 
-  module _ (bytes : (i : ℕ) → get_or s i 0 < byte_limit) (n : ℕ) (all : r ≡ All n) where
+  module _ (bytes : (i : ℕ) → get_or s i 0 < byte_limit) (n : ℕ) (all : r ≡ Ok n) where
     -- the entries that the bytes hold
     record_of : (es : List Entry) × ((bytes_held s ≡ entries es) × (length es ≡ n))
     unfolding survey_of
     record_of = go (bytes_held s) refl (sym p.answer ∙ all)
       where
-        go : (h : Held) → bytes_held s ≡ h → survey_of h ≡ All n → (es : List Entry) × ((bytes_held s ≡ entries es) × (length es ≡ n))
+        go : (h : Held) → bytes_held s ≡ h → survey_of h ≡ Ok n → (es : List Entry) × ((bytes_held s ≡ entries es) × (length es ≡ n))
         go (entries es) e q = (es, (e, cc))
         go (fault i j) e q = let z : ◌≡◌ {A = ℕ} 0 1 = cc in absurd (omega arith)
 

@@ -5,6 +5,8 @@ use Rattle.record.specs.Entry.{cell_limit}
 use Rattle.record.specs.declared.Entry.{Entry}
 use Rattle.record.specs.Record.{Held, entries, fault, bytes_held}
 use Rattle.record.specs.Legal.{Legal}
+use Rattle.refusal.specs.declared.Refusal.{Refusal}
+use Rattle.refusal.specs.declared.Refusal.TheVariants.{AskedAgain}
 use Rattle.std.proofs.Math.Decide.{dec_lt}
 use Rattle.record.specs.declared.Cell.{Cell}
 use Rattle.number.specs.Below.{Bytes}
@@ -13,7 +15,7 @@ use Rattle.law.specs.Order.{Lawful}
 use Rattle.law.proofs.theorems.Whole.{record_locality, record_locality_16}
 use Rattle.verdict.specs.declared.Verdict.{Verdict}
 use Rattle.verdict.specs.declared.Verdict.TheVariants.{Lawful as says_lawful, Unlawful as says_unlawful, Refused as says_refused}
-use Rattle.verdict.specs.Verdict.{repeats, distinct_from, distinct, taken_for, LowestCell, Judges}
+use Rattle.verdict.specs.Verdict.{repeats, distinct_from, distinct, taken_for, LowestCell, RefusedBy, Judges}
 use Rattle.verdict.specs.Answers.{case_of, refusal_in, entry_in, cell_in}
 use Rattle.record.proofs.theorems.Trip.{reading_legal}
 use Rattle.verdict.specs.Same.{SameVerdict}
@@ -24,7 +26,7 @@ LegalHeld h = (es : List Entry) → h ≡ entries es → Legal es
 
 -- ---- a record is one list of entries, and no refusal
 
-no_both : {A : Type 0} {h : Held} {es : List Entry} {k n : ℕ} → h ≡ entries es → h ≡ fault k n → A
+no_both : {A : Type 0} {h : Held} {es : List Entry} {k : Refusal} {n : ℕ} → h ≡ entries es → h ≡ fault k n → A
 no_both p q = let z : ◌≡◌ {A = ℕ} 0 1 = cc in absurd (omega arith)
 
 one_list : {h : Held} {es fs : List Entry} → h ≡ entries es → h ≡ entries fs → es ≡ fs
@@ -56,16 +58,20 @@ pub only_one : (h : Held) → LegalHeld h → (v v' : Verdict) → Judges h v �
 only_one h l says_lawful says_lawful p q = refl
 only_one h l says_lawful (says_unlawful d) (es, (e, o)) (fs, (f, m)) =
     absurd (lawful_no_lowest fs (l fs f) d.0 (subst (λ (xs : List Entry). Lawful (operations xs)) (one_list e f) o) m)
-only_one h l says_lawful (says_refused k n) (es, (e, o)) q = no_both e q
+only_one h l says_lawful (says_refused k n) (es, (e, o)) (r, (q, i)) = no_both e q
 only_one h l (says_unlawful c) says_lawful (es, (e, m)) (fs, (f, o)) =
     absurd (lawful_no_lowest es (l es e) c.0 (subst (λ (xs : List Entry). Lawful (operations xs)) (one_list f e) o) m)
 only_one h l (says_unlawful c) (says_unlawful d) (es, (e, m)) (fs, (f, o)) =
     let b : c.0 ≡ d.0 = one_lowest fs c.0 d.0 (subst (λ (xs : List Entry). LowestCell xs c.0) (one_list e f) m) o in
     ap (λ (n : ℕ). says_unlawful (record { 0 = n })) b
-only_one h l (says_unlawful c) (says_refused k n) (es, (e, m)) q = no_both e q
-only_one h l (says_refused k n) says_lawful p (fs, (f, o)) = no_both f p
-only_one h l (says_refused k n) (says_unlawful d) p (fs, (f, o)) = no_both f p
-only_one h l (says_refused k n) (says_refused i j) p q = let a : k ≡ i = cc in let b : n ≡ j = cc in cc
+only_one h l (says_unlawful c) (says_refused k n) (es, (e, m)) (r, (q, i)) = no_both e q
+only_one h l (says_refused k n) says_lawful (r, (p, i)) (fs, (f, o)) = no_both f p
+only_one h l (says_refused k n) (says_unlawful d) (r, (p, i)) (fs, (f, o)) = no_both f p
+only_one h l (says_refused k n) (says_refused i j) (r, (p, a)) (s, (q, b)) =
+    let same : r ≡ s = cc in
+    let entry : n ≡ j = cc in
+    let number : k ≡ i = cc in
+    cc
 
 -- ---- each says exactly what it means
 
@@ -76,10 +82,10 @@ module _ (h : Held) (v : Verdict) (j : Judges h v) where
     λ o. only_one h (λ fs f. subst Legal (one_list e f) l) v says_lawful j (es, (e, o)),
   )
 
-  pub refused_exactly : (k n : ℕ) → (v ≡ says_refused k n) ↔ (h ≡ fault k n)
+  pub refused_exactly : (k n : ℕ) → (v ≡ says_refused k n) ↔ RefusedBy h k n
   refused_exactly k n = (
     λ q. subst (Judges h) q j,
-    λ e. only_one h (λ fs f. no_both f e) v (says_refused k n) j e,
+    λ r. only_one h (λ fs f. no_both f r.1.0) v (says_refused k n) j r,
   )
 
 -- ---- on bytes
@@ -90,9 +96,9 @@ unfolding distinct_from
 distinct_same earlier [] n whole fs p = p
 distinct_same earlier (e ∷ es) n whole fs p = go (repeats earlier e) p (distinct_same (e ∷ earlier) es (n + 1) whole fs)
   where
-    go : (t : Bool) → cond t (fault 29 n) (distinct_from (e ∷ earlier) (n + 1) es whole) ≡ entries fs
+    go : (t : Bool) → cond t (fault AskedAgain n) (distinct_from (e ∷ earlier) (n + 1) es whole) ≡ entries fs
         → (distinct_from (e ∷ earlier) (n + 1) es whole ≡ entries fs → whole ≡ entries fs) → whole ≡ entries fs
-    go true q f = no_both {h = fault 29 n} q refl
+    go true q f = no_both {h = fault AskedAgain n} q refl
     go false q f = f q
 
 -- what bytes are taken for is what they hold, and has no fault

@@ -7,6 +7,7 @@ use Rattle.number.specs.Value.{alternating_of}
 use Rattle.record.specs.declared.Entry.{Entry}
 use Rattle.record.specs.declared.Entry.TheVariants.{ReadAsked, WriteAsked, Told, Done}
 use Rattle.record.specs.Record.{Held, entries, fault}
+use Rattle.refusal.specs.declared.Refusal.TheVariants.{AskedAgain}
 use Rattle.chains.specs.Chains.{Asks, Again}
 use Rattle.clusters.specs.laws.Arrays.{Arrays, cell_at, value_at, Fresh}
 use Rattle.clusters.specs.laws.Shown.{Shows, AllShow}
@@ -96,28 +97,28 @@ distinct_from_lem a n earlier (e ∷ es) whole r s f =
     go (repeats earlier e) (says_repeats a n earlier e r s.0)
     (distinct_from_lem a (n + 1) (e ∷ earlier) es whole (n, refl, s.0, r) s.1 (λ p l. f p (omega arith)))
   where
-    go : (t : Bool) → Decides (AgainAt a n) t → distinct_from (e ∷ earlier) (n + 1) es whole ≡ whole → cond t (fault 29 n) (distinct_from (e ∷ earlier) (n + 1) es whole) ≡ whole
+    go : (t : Bool) → Decides (AgainAt a n) t → distinct_from (e ∷ earlier) (n + 1) es whole ≡ whole → cond t (fault AskedAgain n) (distinct_from (e ∷ earlier) (n + 1) es whole) ≡ whole
     go true p i = absurd (f n (omega arith) (p.yes refl))
     go false p i = i
 
 -- the first that asks again is named
 named_from : (a : Arrays) (n : ℕ) (earlier es : List Entry) (whole : Held) (p : ℕ) → EarlierShow a n earlier → AllShow a n es → n ≤ p → p < n + length es → AgainAt a p → Fresh a p
-    → distinct_from earlier n es whole ≡ fault 29 p
+    → distinct_from earlier n es whole ≡ fault AskedAgain p
 unfolding distinct_from
 named_from a n earlier [] whole p r s l m k f = absurd (omega arith)
 named_from a n earlier (e ∷ es) whole p r s l m k f =
     go (repeats earlier e) (says_repeats a n earlier e r s.0)
     (λ d. named_from a (n + 1) (e ∷ earlier) es whole p (n, refl, s.0, r) s.1 (omega (arith, d)) (omega arith) k f)
   where
-    go : (t : Bool) → Decides (AgainAt a n) t → (n ≢ p → distinct_from (e ∷ earlier) (n + 1) es whole ≡ fault 29 p)
-        → cond t (fault 29 n) (distinct_from (e ∷ earlier) (n + 1) es whole) ≡ fault 29 p
-    go true q i = ap (fault 29) (elim (ℕ_discrete n p) [ yes d ↦ d | no d ↦ absurd (f n (omega (arith, d)) (q.yes refl)) ])
+    go : (t : Bool) → Decides (AgainAt a n) t → (n ≢ p → distinct_from (e ∷ earlier) (n + 1) es whole ≡ fault AskedAgain p)
+        → cond t (fault AskedAgain n) (distinct_from (e ∷ earlier) (n + 1) es whole) ≡ fault AskedAgain p
+    go true q i = ap (fault AskedAgain) (elim (ℕ_discrete n p) [ yes d ↦ d | no d ↦ absurd (f n (omega (arith, d)) (q.yes refl)) ])
     go false q i = i (λ d. q.no refl (subst (AgainAt a) (sym d) k))
 
 pub distinct_none : (a : Arrays) (es : List Entry) → AllShow a 0 es → Fresh a (length es) → distinct (entries es) ≡ entries es
 unfolding distinct
 distinct_none a es s f = distinct_from_lem a 0 [] es (entries es) refl s (λ p l. f p (omega arith))
 
-pub distinct_named : (a : Arrays) (es : List Entry) (p : ℕ) → AllShow a 0 es → p < length es → AgainAt a p → Fresh a p → distinct (entries es) ≡ fault 29 p
+pub distinct_named : (a : Arrays) (es : List Entry) (p : ℕ) → AllShow a 0 es → p < length es → AgainAt a p → Fresh a p → distinct (entries es) ≡ fault AskedAgain p
 unfolding distinct
 distinct_named a es p s l k f = named_from a 0 [] es (entries es) p refl s (omega arith) (omega arith) k f

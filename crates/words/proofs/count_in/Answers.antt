@@ -5,12 +5,8 @@ use Rattle.words.proofs.count_in.Goals as goal
 pub returns-then-words-gt-MOST_ENTRIES : goal.returns-then-words-gt-MOST_ENTRIES
 returns-then-words-gt-MOST_ENTRIES c = count_more _ c.if-words-gt-MOST_ENTRIES.true
 
-pub returns-then-not-lines_known : goal.returns-then-not-lines_known
-returns-then-not-lines_known c =
-    count_unknown _ _ _ c.if-words-gt-MOST_ENTRIES.false c.requires.1.0 c.lines_known.ensures
-    c.if-not-lines_known.true
+pub returns-then-lines_known : goal.returns-then-lines_known
+returns-then-lines_known c = count_known _ _ _ c.if-words-gt-MOST_ENTRIES.false c.requires.0 c.lines_known.ensures c.if-lines_known.true
 
-pub returns : goal.returns
-returns c =
-    count_known _ _ _ c.if-words-gt-MOST_ENTRIES.false c.requires.1.0 c.lines_known.ensures
-    c.if-not-lines_known.false
+pub returns-else-lines_known : goal.returns-else-lines_known
+returns-else-lines_known c = count_unknown _ _ _ c.if-words-gt-MOST_ENTRIES.false c.requires.0 c.lines_known.ensures c.if-lines_known.false

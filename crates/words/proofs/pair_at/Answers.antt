@@ -5,8 +5,4 @@ use Rattle.words.proofs.pair_at.Goals as goal
 
 pub returns : goal.returns
 unfolding pair_in
-returns c =
-    rw (
-      signed_of_bits c.signed-value.result _ (c.type_inv.words _).fits c.signed-value.ensures,
-      c.byte_at-rank.ensures,
-    )
+returns c = rw (signed_of_bits c.signed.result _ (c.fits-words _) c.signed.ensures, c.byte.ensures)

@@ -1,12 +1,16 @@
-use Rattle.std.proofs.Common.{arith}
-use Rattle.words.proofs.Reading.{fills, fills_on, fills_all}
+-- `words::pairs_of` meets its contract.
+use Rattle.std.proofs.Common.{refl, rules, arith}
+use Rattle.rack.specs.Places.{pair_limit}
+use Rattle.layout.specs.Layout.{firsts}
+use Rattle.words.proofs.Reading.{fill_more, fill_whole}
 use Rattle.words.proofs.pairs_of.Goals as goal
 
 pub loop-i-init : goal.loop-i-init
-loop-i-init c = fills _ _ _ (omega arith)
+unfolding firsts
+loop-i-init c = refl
 
 pub loop-i-preserved : goal.loop-i-preserved
-loop-i-preserved c = fills_on _ _ _ _ _ _ c.loop-i.invariant c.loop-i-test.true c.pair_at-pair.ensures
+loop-i-preserved c = fill_more _ _ _ c.loop-i.i _ c.loop-i.invariant (omega arith) c.pair_at.ensures
 
 pub returns : goal.returns
-returns c = fills_all _ _ _ _ _ c.loop-i.invariant c.loop-i-test.false (omega arith)
+returns c = fill_whole _ _ _ c.loop-i.i pair_limit c.loop-i.invariant (search rules) (omega arith)

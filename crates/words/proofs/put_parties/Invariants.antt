@@ -1,13 +1,9 @@
 -- `words::put_parties` meets its contract.
-use Rattle.std.proofs.Common.{◌-◌, get_or}
+use Rattle.std.proofs.Common.{◌≡◌}
+use Rattle.rack.specs.Places.{party_at}
 use Rattle.layout.specs.Layout.{party_place}
-use Rattle.words.proofs.Writing.{Storing}
-use Rattle.rack.specs.Places.{idle}
-use Rattle.layout.specs.Writing.{party_words}
+use Rattle.layout.specs.Writing.{party_words, put_firsts}
 use Rattle.words.proofs.put_parties.Given as goal
 
 abbrev pub invariant-loop-i : goal.invariant-loop-i
-invariant-loop-i l = Storing party_place (λ j. party_words (get_or l.parties j idle)) l.n l.initial.words l.words l.i
-
-abbrev pub decreases-loop-i : goal.decreases-loop-i
-decreases-loop-i l = l.n - l.i
+invariant-loop-i l = l.words ≡ put_firsts l.i party_place (λ j. party_words (party_at l.rack j)) l.initial.words

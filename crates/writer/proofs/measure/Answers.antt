@@ -1,9 +1,9 @@
+use Rattle.std.specs.Prelude.{None, Ok}
 use Rattle.std.proofs.Common.{ℕ, ◌+◌, ◌*◌, ◌/◌, ◌<◌, ◌≡◌, refl, sym, ◌∙◌, arith, length, leb, List}
 use Rattle.record.specs.Entry.{entry_bytes}
 use Rattle.record.specs.Record.{entry_limit, fault_after, standing_after}
 use Rattle.record.specs.declared.Entry.{Entry}
 use Rattle.record.specs.declared.Standing.{Standing}
-use Rattle.record.specs.declared.Found.TheVariants.{At}
 use Rattle.record.proofs.theorems.EntryTrip.{entry_most}
 use Rattle.record.specs.laws.Steps.{Counting, counts_end, counts_full, counts_unread, counts_misplaced, counts_on}
 use Rattle.rows.specs.laws.RowLaws.{row_next, more_rows, no_more_rows, measure_tally}
@@ -14,7 +14,7 @@ use Rattle.writer.proofs.measure.Goals as goal
 -- a row more is counted
 measures_on : (rows : List ℕ) (n sum : ℕ) (st st' : Standing) (e : Entry) (next long : ℕ)
     → Counting (λ i. leb (i + 4) (length rows)) (row_at rows) (λ f. length (entry_bytes f)) (rows_held rows) (4 * n) n sum st
-    → n < length rows / 4 → (n ≡ entry_limit → ⊥) → row_at rows (4 * n) ≡ At e next → fault_after st e ≡ 0 → st' ≡ standing_after st e → long ≡ length (entry_bytes e)
+    → n < length rows / 4 → (n ≡ entry_limit → ⊥) → row_at rows (4 * n) ≡ Ok (e, next) → fault_after st e ≡ None → st' ≡ standing_after st e → long ≡ length (entry_bytes e)
     → Counting (λ i. leb (i + 4) (length rows)) (row_at rows) (λ f. length (entry_bytes f)) (rows_held rows) (4 * (n + 1)) (n + 1) (sum + long) st'
 measures_on rows n sum st st' e next long k l m f z p q =
     let place : next ≡ 4 * (n + 1) = row_next rows (4 * n) e next f ∙ omega arith in
@@ -29,51 +29,34 @@ returns-then-n-eq-ENTRY_LIMIT c =
     counts_full _ _ _ _ _ _ _ _ c.loop-n.invariant.0 (more_rows c.args.rows.now _ c.loop-n-test.true)
     c.if-n-eq-ENTRY_LIMIT.true ∙ sym (measure_tally _)
 
-pub returns-in-Fault : goal.returns-in-Fault
-returns-in-Fault c =
-    counts_unread _ _ _ _ _ _ _ _ c.loop-n.invariant.0 _
-    (more_rows c.args.rows.now _ c.loop-n-test.true)
-    c.if-n-eq-ENTRY_LIMIT.false (sym c.row_at.ensures ∙ c.in-Fault.is) ∙ sym (measure_tally _)
+pub returns-in-Err : goal.returns-in-Err
+returns-in-Err c =
+    counts_unread _ _ _ _ _ _ _ _ c.loop-n.invariant.0 _ (more_rows c.args.rows.now _ c.loop-n-test.true)
+    c.if-n-eq-ENTRY_LIMIT.false (sym c.in-Err.ensures) ∙ sym (measure_tally _)
 
-pub returns-then-k-ne0 : goal.returns-then-k-ne0
-returns-then-k-ne0 c =
-    counts_misplaced _ _ _ _ _ _ _ _ c.loop-n.invariant.0 _ _ _
-    (more_rows c.args.rows.now _
-    c.loop-n-test.true) c.if-n-eq-ENTRY_LIMIT.false
-    (sym c.row_at.ensures ∙ c.in-At.is) c.fault-k.ensures c.if-k-ne0.true ∙ sym (measure_tally _)
+pub returns-in-Some : goal.returns-in-Some
+returns-in-Some c =
+    counts_misplaced _ _ _ _ _ _ _ _ c.loop-n.invariant.0 _ _ _ (more_rows c.args.rows.now _ c.loop-n-test.true)
+    c.if-n-eq-ENTRY_LIMIT.false (sym c.in-Ok.ensures) (sym c.in-Some.ensures) ∙ sym (measure_tally _)
 
 pub overflow_add-sum : goal.overflow_add-sum
 overflow_add-sum c =
     omega (
       arith,
       c.entry_length-sum.ensures,
-      entry_most c.in-At.e,
+      entry_most c.in-Ok.e,
       c.loop-n.invariant.1,
       c.loop-n.invariant.0.limit,
     )
 
-pub overflow_add-n : goal.overflow_add-n
-overflow_add-n c = omega (arith, c.loop-n.invariant.0.limit)
-
-pub loop-n-smaller : goal.loop-n-smaller
-loop-n-smaller c =
-    omega (
-      arith,
-      c.loop-n.invariant.0.limit,
-      c.if-n-eq-ENTRY_LIMIT.false,
-    )
-
 pub loop-n-preserved : goal.loop-n-preserved
 loop-n-preserved c = (
-  measures_on _ _ _ _ _ _ _ _ c.loop-n.invariant.0
-      c.loop-n-test.true c.if-n-eq-ENTRY_LIMIT.false
-      (sym c.row_at.ensures
-      ∙ c.in-At.is) (sym c.fault-k.ensures
-      ∙ c.if-k-ne0.false) c.after-st.ensures c.entry_length-sum.ensures,
+  measures_on _ _ _ _ _ _ _ _ c.loop-n.invariant.0 c.loop-n-test.true c.if-n-eq-ENTRY_LIMIT.false
+      (sym c.in-Ok.ensures) (sym c.in_default.ensures) c.after-st.ensures c.entry_length-sum.ensures,
   omega (
     arith,
     c.entry_length-sum.ensures,
-    entry_most c.in-At.e,
+    entry_most c.in-Ok.e,
     c.loop-n.invariant.1,
   ),
 )

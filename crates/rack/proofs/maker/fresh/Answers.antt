@@ -1,4 +1,3 @@
--- `rack::maker::fresh` meets its contract.
 use Rattle.rack.specs.Run.{fresh_rack}
 use Rattle.rack.proofs.maker.fresh.Goals as goal
 

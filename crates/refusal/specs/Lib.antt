@@ -1,0 +1,2 @@
+-- What has to be believed: definitions.
+pub mod Number

@@ -1,8 +1,0 @@
--- `show::put_sizes` meets its contract. Assumes nothing.
-use Rattle.text.specs.laws.Printing.{join}
-use Rattle.show.proofs.put_sizes.Goals as goal
-
-pub returns : goal.returns
-returns c =
-    join c.put_field-a.ensures (join c.put_field-b.ensures
-    (join c.put_field-c.ensures c.put_words.ensures))

@@ -1,0 +1,2 @@
+-- What is proved, and the definitions that only proofs need.
+pub mod laws

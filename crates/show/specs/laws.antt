@@ -1,0 +1,2 @@
+-- Laws: what is proved, and the definitions that only proofs need.
+pub mod Forms
