@@ -35,10 +35,13 @@ fn read_groups(s: &[u8], at: usize, left: u32) -> Number
         return Err(Refusal::EndsFirst);
     }
     let b = s[at];
-    if left == 0 && FIFTH_MOST < b {
-        return Err(Refusal::FifthAbove);
+    if left == 0 {
+        if FIFTH_MOST < b {
+            return Err(Refusal::FifthAbove);
+        }
+        return Ok((u32::from(b), at + 1));
     }
-    if left == 0 || b < MORE {
+    if b < MORE {
         return Ok((u32::from(b), at + 1));
     }
     let (m, next) = read_groups(s, at + 1, left - 1)?;

@@ -5,7 +5,7 @@ ghost use Rattle.std.specs.Prelude.{◌≡◌, true, cond, ◌+◌, ◌≤◌, �
 ghost use Rattle.std.proofs.lemmas.List.Edits.{sets};
 ghost use Rattle.record.specs.Entry.{client_limit};
 ghost use Rattle.record.specs.Record.{entry_limit};
-ghost use Rattle.rows.specs.Row.{entry_of};
+ghost use Rattle.rows.specs.Row.{entry_of, row_of};
 ghost use Rattle.stamps.specs.Stamp.{fresh_pair};
 ghost use Rattle.rack.specs.Places.{replica_limit, slot_limit, pair_limit};
 ghost use Rattle.rack.specs.Sound.{all_below, sound_of};
@@ -636,17 +636,21 @@ fn put_wire(words: &mut [u32; WORDS], rack: &Rack)
     }
 }
 
+// An entry's row, stored by the call that the reader has too.
+fn put_entry(words: &mut [u32; WORDS], at: usize, entry: Entry)
+    requires { at + entry_size ≤ word_count }
+    ensures { words.new ≡ sets words.old at (row_of entry) }
+{
+    rows::store_row(words, at, entry);
+}
+
 #[tactic(auto, unfolding(layout::specs::Writing::record_put))]
 fn put_lines(words: &mut [u32; WORDS], rack: &Rack)
     requires { rack.now.count ≤ entry_limit }
     ensures { words.new ≡ record_put rack.now words.old }
 {
     for i in 0..rack.count {
-        put(
-            words,
-            ENTRIES_AT + ENTRY_WORDS * i,
-            &rows::row_of(rack.lines[i].entry),
-        );
+        put_entry(words, ENTRIES_AT + ENTRY_WORDS * i, rack.lines[i].entry);
     }
 }
 

@@ -1,7 +1,8 @@
 // The writer: an entry's bytes, and those of the record that rows in lent memory hold.
 #![tactic(auto)]
 
-ghost use Rattle.std.specs.Prelude.{◌≡◌, ◌+◌, ◌≤◌, length};
+ghost use Rattle.std.specs.Prelude.{ℕ, ◌≡◌, ◌+◌, ◌≤◌, length};
+ghost use Rattle.std.specs.Result.{result_map_both};
 ghost use Rattle.number.specs.Number.{number_bytes, Placed};
 ghost use Rattle.record.specs.Entry.{entry_bytes};
 ghost use Rattle.rows.specs.Row.{row_found, row_at};
@@ -10,13 +11,13 @@ ghost use Rattle.rows.specs.laws.Storing.{measure_of, Writable};
 ghost use Rattle.number.specs.Wrote.{Wrote};
 
 use number::number_length;
-use record::{Answer, Cell, Client, ENTRY_LIMIT, Entry, Found, Standing};
+use record::{Answer, Cell, Client, ENTRY_LIMIT, Entry, Standing};
 use refusal::Refusal;
 use rows::row_of;
 
-// What four numbers of a row are; `next` is the place after them. A field that the kind hasn't got isn't looked at.
-fn row_found(kind: u32, client: u32, cell: u32, value: u32, next: usize) -> Found
-    ensures { result ≡ row_found kind client cell value next }
+// The entry that four numbers of a row are, without a place beside it. A field that the kind hasn't got isn't looked at.
+fn row_found(kind: u32, client: u32, cell: u32, value: u32) -> Result<Entry, Refusal>
+    ensures { (next : ℕ) → row_found kind client cell value next ≡ result_map_both (λ e. (e, next)) (λ k. k) result }
 {
     if 3 < kind {
         return Err(Refusal::KindAbove);
@@ -26,28 +27,28 @@ fn row_found(kind: u32, client: u32, cell: u32, value: u32, next: usize) -> Foun
     }
     let client = Client(client as u8);
     if kind == 3 {
-        return Ok((Entry::Done(client), next));
+        return Ok(Entry::Done(client));
     }
     if kind == 2 {
-        return Ok((Entry::Told(client, number::signed(value)), next));
+        return Ok(Entry::Told(client, number::signed(value)));
     }
     if Cell::LAST < cell {
         return Err(Refusal::FieldAbove);
     }
     let cell = Cell(cell as u8);
     if kind == 0 {
-        return Ok((Entry::ReadAsked(client, cell), next));
+        return Ok(Entry::ReadAsked(client, cell));
     }
-    Ok((Entry::WriteAsked(client, cell, number::signed(value)), next))
+    Ok(Entry::WriteAsked(client, cell, number::signed(value)))
 }
 
-// The row at a place of the lent rows.
+// The entry of the row at a place of the lent rows: the next is four numbers on.
 #[tactic(auto, unfolding(rows::specs::Row::row_at))]
-fn row_at(rows: &[u32], at: usize) -> Found
+fn row_at(rows: &[u32], at: usize) -> Result<Entry, Refusal>
     requires { at + 4 ≤ length rows.now }
-    ensures { result ≡ row_at rows.now at }
+    ensures { row_at rows.now at ≡ result_map_both (λ e. (e, at + 4)) (λ k. k) result }
 {
-    row_found(rows[at], rows[at + 1], rows[at + 2], rows[at + 3], at + 4)
+    row_found(rows[at], rows[at + 1], rows[at + 2], rows[at + 3])
 }
 
 // How many bytes an entry takes: those of its row's numbers, without the fields that its kind hasn't got.
@@ -81,7 +82,7 @@ fn measure(rows: &[u32]) -> Answer
             return Err((Refusal::TooMany, n));
         }
         let e = match row_at(rows, 4 * n) {
-            Ok((e, _)) => e,
+            Ok(e) => e,
             Err(refusal) => return Err((refusal, n)),
         };
         if let Some(refusal) = st.fault(e) {
@@ -141,7 +142,7 @@ fn put_rows(rows: &[u32], bytes: &mut [u8])
 {
     let mut out = 0;
     for n in 0..rows.len() / 4 {
-        let (e, _) = row_at(rows, 4 * n).unwrap();
+        let e = row_at(rows, 4 * n).unwrap();
         out = put_entry(bytes, out, e);
     }
 }

@@ -1,4 +1,4 @@
-use Rattle.std.proofs.Common.{◌-◌, ◌+◌, ◌^◌, ◌<◌, ⊎_elim, sym, ◌∙◌, arith}
+use Rattle.std.proofs.Common.{◌-◌, ◌+◌, ◌^◌, ◌<◌, sym, ◌∙◌, arith}
 use Rattle.std.proofs.lemmas.Result.{err_from_is_err_and}
 use Rattle.number.specs.laws.Steps.{push, push_zero, push_more}
 use Rattle.number.proofs.Laws.{at_end, fifth_high, fifth, low, high, rest_below}
@@ -14,23 +14,27 @@ returns-then-b-gt-FIFTH_MOST t c =
     let a = c.args in
     sym (fifth_high a.s.now a.at a.left c.if-at-s.false c.if-left-eq0.true (omega (arith, c.if-b-gt-FIFTH_MOST.true)))
 
-pub returns-then-left-eq0-2 : goal.returns-then-left-eq0-2
-returns-then-left-eq0-2 t c =
+pub returns-then-left-eq0 : goal.returns-then-left-eq0
+returns-then-left-eq0 t c =
     let a = c.args in
-    rw c.from.ensures (sym (⊎_elim (λ z. ⊎_elim (λ b. fifth a.s.now a.at a.left c.if-at-s.false z b.1) (λ n. absurd (n z)) c.else-left-eq0.either)
-    (λ b. low a.s.now a.at a.left c.if-at-s.false b.0 b.1) c.then-left-eq0-2.either))
+    rw c.from.ensures (sym (fifth a.s.now a.at a.left c.if-at-s.false c.if-left-eq0.true c.if-b-gt-FIFTH_MOST.false))
+
+pub returns-then-b-lt-MORE : goal.returns-then-b-lt-MORE
+returns-then-b-lt-MORE t c =
+    let a = c.args in
+    rw c.from-then-b-lt-MORE.ensures (sym (low a.s.now a.at a.left c.if-at-s.false c.if-left-eq0.false c.if-b-lt-MORE.true))
 
 pub returns-in_err-m : goal.returns-in_err-m
 unfolding push
 returns-in_err-m t c =
     let a = c.args in
     let p = err_from_is_err_and c.from_residual.result c.from_residual.ensures.1 in
-    rw (p.1, p.2) (sym (high a.s.now a.at a.left _ c.if-at-s.false c.if-left-eq0-2.false c.if-b-lt-MORE.false (sym c.in_err-m.ensures)))
+    rw (p.1, p.2) (sym (high a.s.now a.at a.left _ c.if-at-s.false c.if-left-eq0.false c.if-b-lt-MORE.false (sym c.in_err-m.ensures)))
 
 pub returns-then-m-eq0 : goal.returns-then-m-eq0
 returns-then-m-eq0 t c =
     let a = c.args in
-    sym (high a.s.now a.at a.left _ c.if-at-s.false c.if-left-eq0-2.false c.if-b-lt-MORE.false (sym c.in_ok-m.ensures) ∙ push_zero _ _ _ c.if-m-eq0.true)
+    sym (high a.s.now a.at a.left _ c.if-at-s.false c.if-left-eq0.false c.if-b-lt-MORE.false (sym c.in_ok-m.ensures) ∙ push_zero _ _ _ c.if-m-eq0.true)
 
 -- the rest of the number, where there is one, is below 2 ^ 25
 pub overflow_mul-result : goal.overflow_mul-result
@@ -46,4 +50,4 @@ overflow_add-result-2 t c =
 pub returns : goal.returns
 returns t c =
     let a = c.args in
-    rw c.from-2.ensures (sym (high a.s.now a.at a.left _ c.if-at-s.false c.if-left-eq0-2.false c.if-b-lt-MORE.false (sym c.in_ok-m.ensures) ∙ push_more _ _ _ c.if-m-eq0.false))
+    rw c.from-2.ensures (sym (high a.s.now a.at a.left _ c.if-at-s.false c.if-left-eq0.false c.if-b-lt-MORE.false (sym c.in_ok-m.ensures) ∙ push_more _ _ _ c.if-m-eq0.false))

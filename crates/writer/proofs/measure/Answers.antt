@@ -32,12 +32,12 @@ returns-then-n-eq-ENTRY_LIMIT c =
 pub returns-in-Err : goal.returns-in-Err
 returns-in-Err c =
     counts_unread _ _ _ _ _ _ _ _ c.loop-n.invariant.0 _ (more_rows c.args.rows.now _ c.loop-n-test.true)
-    c.if-n-eq-ENTRY_LIMIT.false (sym c.in-Err.ensures) ∙ sym (measure_tally _)
+    c.if-n-eq-ENTRY_LIMIT.false c.in-Err.ensures ∙ sym (measure_tally _)
 
 pub returns-in-Some : goal.returns-in-Some
 returns-in-Some c =
     counts_misplaced _ _ _ _ _ _ _ _ c.loop-n.invariant.0 _ _ _ (more_rows c.args.rows.now _ c.loop-n-test.true)
-    c.if-n-eq-ENTRY_LIMIT.false (sym c.in-Ok.ensures) (sym c.in-Some.ensures) ∙ sym (measure_tally _)
+    c.if-n-eq-ENTRY_LIMIT.false c.in-Ok.ensures (sym c.in-Some.ensures) ∙ sym (measure_tally _)
 
 pub overflow_add-sum : goal.overflow_add-sum
 overflow_add-sum c =
@@ -52,7 +52,7 @@ overflow_add-sum c =
 pub loop-n-preserved : goal.loop-n-preserved
 loop-n-preserved c = (
   measures_on _ _ _ _ _ _ _ _ c.loop-n.invariant.0 c.loop-n-test.true c.if-n-eq-ENTRY_LIMIT.false
-      (sym c.in-Ok.ensures) (sym c.in_default.ensures) c.after-st.ensures c.entry_length-sum.ensures,
+      c.in-Ok.ensures (sym c.in_default.ensures) c.after-st.ensures c.entry_length-sum.ensures,
   omega (
     arith,
     c.entry_length-sum.ensures,
